@@ -1,0 +1,6 @@
+pub mod Bad
+pub mod Determined
+pub mod Fields
+pub mod First
+pub mod Registers
+pub mod Table

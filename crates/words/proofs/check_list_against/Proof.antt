@@ -1,0 +1,78 @@
+use mathlib.Core.Path.{_≡_, refl, sym, _∙_}
+use Prim.Native.Nat.{_-_, _≤_}
+use native.Mathlib.Omega.{arith}
+use borrow.Author.Needs.{needs}
+use borrow.Author.Tests.{lt-ltb, le-ltb}
+use lib.ListN.{length, drop}
+use Rattle.words.specs.Check.{firstBad, listCheck}
+use Rattle.words.proofs.Bad.{bad-here, bad-later, bad-none}
+use Rattle.words.proofs.check_list_against.Statement.{statement}
+use Rattle.words.proofs.check_list_against.Tie as tie
+
+abbrev Inv-loop : tie.InvT-loop
+Inv-loop words operands results place₀ place =
+    (place ≤ length words) × (firstBad operands results 0 words ≡ firstBad operands results place (drop place words))
+
+abbrev μ-loop : tie.MeasureT-loop
+μ-loop words operands results place₀ place = length words - place
+
+returns : tie.Need-returns Inv-loop μ-loop
+unfolding listCheck
+returns c = rw (lt-ltb _ _ (c .if1 .taken))
+
+loop-holds : tie.Need-loop-holds Inv-loop μ-loop
+loop-holds c = (omega arith, refl)
+
+mul-word-refusal : tie.Need-mul-word-refusal Inv-loop μ-loop
+mul-word-refusal c = search needs
+
+shared-slice-read-word-refusal : tie.Need-shared-slice-read-word-refusal Inv-loop μ-loop
+shared-slice-read-word-refusal c = search needs
+
+word-refusal-requires : tie.Need-word-refusal-requires Inv-loop μ-loop
+word-refusal-requires c κs = search needs
+
+returns-2 : tie.Need-returns-2 Inv-loop μ-loop
+unfolding listCheck
+returns-2 c =
+    let w = c .before in
+    let l = w .before .before .before in
+    rw (le-ltb _ _ (l .before .if1 .left), w .word-refusal .ensures)
+    (sym (l .loop .inv .1 ∙ bad-here _ _ _ _ (w .before .before .loop-test .taken) (rw (w .word-refusal .ensures) at (c .if2 .taken))))
+
+add-place : tie.Need-add-place Inv-loop μ-loop
+add-place c = search needs
+
+loop-less : tie.Need-loop-less Inv-loop μ-loop
+loop-less c = search needs
+
+loop-again : tie.Need-loop-again Inv-loop μ-loop
+loop-again c =
+    let w = c .before in
+    let l = w .before .before .before in (
+      omega arith,
+      l .loop .inv .1 ∙ bad-later _ _ _ _ (w .before .before .loop-test .taken) (rw (w .word-refusal .ensures) at (c .if2 .left)),
+    )
+
+returns-3 : tie.Need-returns-3 Inv-loop μ-loop
+unfolding listCheck
+returns-3 c =
+    let l = c .before in
+    rw (le-ltb _ _ (l .before .if1 .left)) (sym (l .loop .inv .1 ∙ bad-none _ _ _ _ (c .loop-test .left)))
+
+pub check-list-against-spec : {M : Type 1} → statement M
+check-list-against-spec =
+    tie.close
+    (tie.spec
+    Inv-loop
+    μ-loop
+    returns
+    loop-holds
+    mul-word-refusal
+    shared-slice-read-word-refusal
+    word-refusal-requires
+    returns-2
+    add-place
+    loop-less
+    loop-again
+    returns-3)

@@ -1,0 +1,84 @@
+use mathlib.Core.Path.{_≡_, sym}
+use borrow.Author.Needs.{needs}
+use borrow.Author.Tests.{eq-eqb, ne-eqb}
+use Rattle.words.specs.Instructions.{operationField, r1Field, operandField, formOf}
+use Rattle.words.specs.Check.{operationRefusal, registerRefusal, operandRefusal, wordRefusal}
+use Rattle.words.proofs.First.{last-refusal}
+use Rattle.words.proofs.word_refusal.Statement.{statement}
+use Rattle.words.proofs.word_refusal.Tie as tie
+
+-- the three refusals, of the word's own fields
+by-operation : (c : tie.After-operation-refusal)
+    → c .operation-refusal .result ≡ operationRefusal (operationField (c .before .before .args .word))
+by-operation c = cc
+
+by-register : (c : tie.After-register-refusal)
+    → c .register-refusal .result ≡ registerRefusal (r1Field (c .before .before .before .before .before .args .word))
+by-register c = cc
+
+by-operand : (c : tie.After-operand-refusal)
+    → let a = c .before .before .before .before .before .before .before .before .before .args in
+    c .operand-refusal .result ≡ operandRefusal (a .operands) (a .results) (formOf (operationField (a .word))) (operandField (a .word))
+by-operand c = cc
+
+operation-of-requires : tie.Need-operation-of-requires
+operation-of-requires c κs = search needs
+
+operation-refusal-requires : tie.Need-operation-refusal-requires
+operation-refusal-requires c κs = search needs
+
+returns : tie.Need-returns
+unfolding wordRefusal
+returns c = rw (← by-operation (c .before), ne-eqb _ 0 (c .if1 .taken))
+
+r1-of-requires : tie.Need-r1-of-requires
+r1-of-requires c κs = search needs
+
+register-refusal-requires : tie.Need-register-refusal-requires
+register-refusal-requires c κs = search needs
+
+returns-2 : tie.Need-returns-2
+unfolding wordRefusal
+returns-2 c =
+    rw (
+      ← by-operation (c .before .before .before .before),
+      eq-eqb _ 0 (c .before .before .before .if1 .left),
+      ← by-register (c .before),
+      ne-eqb _ 0 (c .if2 .taken),
+    )
+
+form-of-requires : tie.Need-form-of-requires
+form-of-requires c κs = search needs
+
+operand-of-requires : tie.Need-operand-of-requires
+operand-of-requires c κs = search needs
+
+operand-refusal-requires : tie.Need-operand-refusal-requires
+operand-refusal-requires c κs = search needs
+
+returns-3 : tie.Need-returns-3
+unfolding wordRefusal
+returns-3 c =
+    let e = c .before .before .before in
+    rw (
+      ← by-operation (e .before .before .before .before),
+      eq-eqb _ 0 (e .before .before .before .if1 .left),
+      ← by-register (e .before),
+      eq-eqb _ 0 (e .if2 .left),
+      ← by-operand c,
+    ) (sym (last-refusal _))
+
+pub word-refusal-spec : {M : Type 1} → statement M
+word-refusal-spec =
+    tie.close
+    (tie.spec
+    operation-of-requires
+    operation-refusal-requires
+    returns
+    r1-of-requires
+    register-refusal-requires
+    returns-2
+    form-of-requires
+    operand-of-requires
+    operand-refusal-requires
+    returns-3)

@@ -1,0 +1,164 @@
+// Words and lists of document 01: fields, the instruction table, and the check of a word and of a list.
+use numbers::Operation;
+ghost use mathlib.Core.Path.{_≡_};
+ghost use Rattle.words.specs.Instructions.{operationField, r1Field, operandField, formOf};
+ghost use Rattle.words.specs.Check.{operationRefusal, registerRefusal, cellRefusal, operandRefusal, wordRefusal, listCheck, listCheckAlone};
+
+pub mod refusal;
+
+// 01: "A list has 0 to 4,096 words."
+pub const LIST_LIMIT: usize = 4096;
+// 01: "Cells are 0 to 255."
+pub const CELL_LIMIT: usize = 256;
+
+// What a word asks for, by its operation's number.
+pub enum Form {
+    Unknown,
+    LD,
+    LDR,
+    CellArithmetic(Operation),
+    RegisterArithmetic(Operation),
+    STD,
+}
+
+// The answer of a check: a refusal number of 01, 0 for accepted, with its place.
+pub struct Verdict {
+    pub refusal: u32,
+    pub place: usize,
+}
+
+pub fn operation_of(word: u32) -> u32
+    ensures { λ r. ⌜ r ≡ operationField word ⌝ }
+{
+    word >> 16
+}
+
+pub fn r1_of(word: u32) -> u32
+    ensures { λ r. ⌜ r ≡ r1Field word ⌝ }
+{
+    (word >> 12) & 0xF
+}
+
+pub fn operand_of(word: u32) -> u32
+    ensures { λ r. ⌜ r ≡ operandField word ⌝ }
+{
+    word & 0xFFF
+}
+
+// 01's instruction table.
+pub fn form_of(operation: u32) -> Form
+    ensures { λ r. ⌜ r ≡ formOf operation ⌝ }
+{
+    match operation {
+        1 => Form::LD,
+        2 => Form::LDR,
+        3 => Form::CellArithmetic(Operation::Add),
+        4 => Form::RegisterArithmetic(Operation::Add),
+        5 => Form::CellArithmetic(Operation::Subtract),
+        6 => Form::RegisterArithmetic(Operation::Subtract),
+        7 => Form::CellArithmetic(Operation::Multiply),
+        8 => Form::RegisterArithmetic(Operation::Multiply),
+        9 => Form::CellArithmetic(Operation::Divide),
+        10 => Form::RegisterArithmetic(Operation::Divide),
+        11 => Form::STD,
+        _ => Form::Unknown,
+    }
+}
+
+pub fn operation_refusal(operation: u32) -> u32
+    ensures { λ r. ⌜ r ≡ operationRefusal operation ⌝ }
+{
+    if operation < 1 {
+        return refusal::OPERATION;
+    }
+    if 11 < operation {
+        return refusal::OPERATION;
+    }
+    refusal::ACCEPTED
+}
+
+pub fn register_refusal(register: u32) -> u32
+    ensures { λ r. ⌜ r ≡ registerRefusal register ⌝ }
+{
+    match register {
+        0 | 2 | 4 | 6 => refusal::ACCEPTED,
+        _ => refusal::REGISTER,
+    }
+}
+
+fn cell_refusal(cell: u32, area: usize) -> u32
+    ensures { λ r. ⌜ r ≡ cellRefusal area cell ⌝ }
+{
+    let at = cell as usize;
+    if CELL_LIMIT <= at {
+        return refusal::CELL;
+    }
+    if area <= at {
+        return refusal::CELL;
+    }
+    refusal::ACCEPTED
+}
+
+// The operand's own refusal, against areas of so many operand and result cells.
+pub fn operand_refusal(form: Form, operand: u32, operands: usize, results: usize) -> u32
+    ensures { λ r. ⌜ r ≡ operandRefusal operands results form operand ⌝ }
+{
+    match form {
+        Form::Unknown => refusal::ACCEPTED,
+        Form::LD => cell_refusal(operand, operands),
+        Form::LDR => register_refusal(operand),
+        Form::CellArithmetic(_) => cell_refusal(operand, operands),
+        Form::RegisterArithmetic(_) => register_refusal(operand),
+        Form::STD => cell_refusal(operand, results),
+    }
+}
+
+// Inside a word 2, then R1's 3, then the operand's 3 or 4.
+pub fn word_refusal(word: u32, operands: usize, results: usize) -> u32
+    ensures { λ r. ⌜ r ≡ wordRefusal operands results word ⌝ }
+{
+    let operation = operation_of(word);
+    let unknown = operation_refusal(operation);
+    if unknown != 0 {
+        return unknown;
+    }
+    let wrong = register_refusal(r1_of(word));
+    if wrong != 0 {
+        return wrong;
+    }
+    operand_refusal(form_of(operation), operand_of(word), operands, results)
+}
+
+// The list against areas of so many operand and result cells: 1 at place 4,096, else the first bad word with its place, else 0 at the length.
+pub fn check_list_against(words: &[u32], operands: usize, results: usize) -> Verdict
+    ensures { λ r. ⌜ r ≡ listCheck operands results (now (words .entry)) ⌝ }
+{
+    if LIST_LIMIT < words.len() {
+        return Verdict {
+            refusal: refusal::LIST,
+            place: LIST_LIMIT,
+        };
+    }
+    let mut place = 0;
+    while place < words.len() {
+        let bad = word_refusal(words[place], operands, results);
+        if bad != 0 {
+            return Verdict {
+                refusal: bad,
+                place,
+            };
+        }
+        place += 1;
+    }
+    Verdict {
+        refusal: refusal::ACCEPTED,
+        place,
+    }
+}
+
+// The list alone: no areas are lent, so only the cell limit speaks.
+pub fn check_list(words: &[u32]) -> Verdict
+    ensures { λ r. ⌜ r ≡ listCheckAlone (now (words .entry)) ⌝ }
+{
+    check_list_against(words, CELL_LIMIT, CELL_LIMIT)
+}
