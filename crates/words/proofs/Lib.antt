@@ -2,5 +2,6 @@ pub mod Bad
 pub mod Determined
 pub mod Fields
 pub mod First
+pub mod Known
 pub mod Registers
 pub mod Table

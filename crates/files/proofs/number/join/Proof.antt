@@ -1,0 +1,20 @@
+use Prim.Native.Nat.{_*_, _%_}
+use native.Mathlib.Nat.{mod-eq-of-lt}
+use native.Mathlib.Omega.{arith}
+use lib.Bits.{and-mask, or-shifted-r}
+use Rattle.files.proofs.number.join.Statement.{statement}
+use Rattle.files.proofs.number.join.Tie as tie
+use Rattle.files.proofs.number.join.Reads as reads
+use Rattle.files.proofs.number.join.Lts as lts
+
+-- src/number.rt:27:1
+returns : tie.Need-returns
+returns c =
+    rw (
+      and-mask (c .args .low) 7,
+      mod-eq-of-lt {n = c .args .later * 128} {m = 4294967296} (omega arith),
+      or-shifted-r (c .args .later) 7 (c .args .low % 128) (omega arith),
+    ) (omega arith)
+
+pub join-spec : {M : Type 1} → statement M
+join-spec = tie.close (tie.spec returns)
