@@ -1,6 +1,10 @@
 pub mod Groups
 pub mod Inverse
+pub mod Laid
+pub mod Measured
 pub mod NumberAt
 pub mod Passed
 pub mod Peel
+pub mod Shortest
 pub mod Words
+pub mod Wrote

@@ -4,10 +4,7 @@ use native.Mathlib.Omega.{arith}
 use lib.Bits.{and-mask, or-shifted-r}
 use Rattle.files.proofs.number.join.Statement.{statement}
 use Rattle.files.proofs.number.join.Tie as tie
-use Rattle.files.proofs.number.join.Reads as reads
-use Rattle.files.proofs.number.join.Lts as lts
 
--- src/number.rt:27:1
 returns : tie.Need-returns
 returns c =
     rw (

@@ -3,66 +3,46 @@ use Rattle.files.proofs.NumberAt.{at-end, at-one, at-cut-one, at-zero-s
 use borrow.Author.Needs.{needs}
 use Rattle.files.proofs.number.number_at.Statement.{statement}
 use Rattle.files.proofs.number.number_at.Tie as tie
-use Rattle.files.proofs.number.number_at.Reads as reads
-use Rattle.files.proofs.number.number_at.Lts as lts
-use Rattle.files.proofs.number.cut.Reads as cut-reads
-use Rattle.files.proofs.number.join.Reads as join-reads
-use Rattle.files.proofs.number.not_shortest.Reads as not-shortest-reads
-use Rattle.files.proofs.number.wide.Reads as wide-reads
 
--- src/number.rt:51:9
 cut-requires : tie.Need-cut-requires
 cut-requires c κs = search needs
 
--- src/number.rt:51:9
 returns : tie.Need-returns
 returns c = rw (c .cut .ensures) (at-end _ _ (c .before .if1 .taken))
 
--- src/number.rt:53:16
 sub-left : tie.Need-sub-left
 sub-left c = search needs
 
--- src/number.rt:54:20
 shared-slice-read-wide : tie.Need-shared-slice-read-wide
 shared-slice-read-wide c = search needs
 
--- src/number.rt:54:9
 wide-requires : tie.Need-wide-requires
 wide-requires c κs = search needs
 
--- src/number.rt:56:38
 add-t11 : tie.Need-add-t11
 add-t11 c = search needs
 
--- src/number.rt:56:9
 returns-2 : tie.Need-returns-2
 returns-2 c = at-one _ _ (c .before .wide .ensures) (c .before .before .before .if1 .left) (c .if2 .taken)
 
--- src/number.rt:59:9
 cut-requires-2 : tie.Need-cut-requires-2
 cut-requires-2 c κs = search needs
 
--- src/number.rt:59:9
 returns-3 : tie.Need-returns-3
 returns-3 c = rw (c .cut2 .ensures) (at-cut-one _ _ (c .before .before .before .wide .ensures) (c .before .before .if2 .left) (omega arith))
 
--- src/number.rt:61:29
 add-wide : tie.Need-add-wide
 add-wide c = search needs
 
--- src/number.rt:61:23
 shared-slice-read-wide-2 : tie.Need-shared-slice-read-wide-2
 shared-slice-read-wide-2 c = search needs
 
--- src/number.rt:61:9
 wide-requires-2 : tie.Need-wide-requires-2
 wide-requires-2 c κs = search needs
 
--- src/number.rt:64:13
 not-shortest-requires : tie.Need-not-shortest-requires
 not-shortest-requires c κs = search needs
 
--- src/number.rt:64:13
 returns-4 : tie.Need-returns-4
 returns-4 c =
     let w = c .before .before .before in
@@ -70,15 +50,12 @@ returns-4 c =
     rw (c .not-shortest .ensures)
     (at-zero-second _ _ (e .before .wide .ensures) (e .if2 .left) (w .wide2 .ensures) (omega arith) (c .before .if5 .taken))
 
--- src/number.rt:66:33
 join-requires : tie.Need-join-requires
 join-requires c κs = search needs
 
--- src/number.rt:66:52
 add-t15 : tie.Need-add-t15
 add-t15 c = search needs
 
--- src/number.rt:66:9
 returns-5 : tie.Need-returns-5
 returns-5 c =
     let w = c .before .before .before in
@@ -86,11 +63,9 @@ returns-5 c =
     rw (c .join .ensures)
     (at-two _ _ (e .before .wide .ensures) (e .if2 .left) (w .wide2 .ensures) (omega arith) (c .before .if5 .left) (c .before .before .if4 .taken))
 
--- src/number.rt:69:9
 cut-requires-3 : tie.Need-cut-requires-3
 cut-requires-3 c κs = search needs
 
--- src/number.rt:69:9
 returns-6 : tie.Need-returns-6
 returns-6 c =
     let w = c .before .before .before in
@@ -98,23 +73,18 @@ returns-6 c =
     rw (c .cut3 .ensures)
     (at-cut-two _ _ (e .before .wide .ensures) (e .if2 .left) (w .wide2 .ensures) (c .before .before .if4 .left) (omega arith))
 
--- src/number.rt:71:27
 add-wide-2 : tie.Need-add-wide-2
 add-wide-2 c = search needs
 
--- src/number.rt:71:21
 shared-slice-read-wide-3 : tie.Need-shared-slice-read-wide-3
 shared-slice-read-wide-3 c = search needs
 
--- src/number.rt:71:9
 wide-requires-3 : tie.Need-wide-requires-3
 wide-requires-3 c κs = search needs
 
--- src/number.rt:73:9
 not-shortest-requires-2 : tie.Need-not-shortest-requires-2
 not-shortest-requires-2 c κs = search needs
 
--- src/number.rt:73:9
 returns-7 : tie.Need-returns-7
 returns-7 c =
     let v = c .before .before in
@@ -124,11 +94,9 @@ returns-7 c =
     (at-zero-third _ _ (e .before .wide .ensures) (e .if2 .left) (w .wide2 .ensures) (v .before .before .before .if4 .left) (v .wide3 .ensures)
     (omega arith) (c .before .if7 .taken))
 
--- src/number.rt:76:9
 not-shortest-requires-3 : tie.Need-not-shortest-requires-3
 not-shortest-requires-3 c κs = search needs
 
--- src/number.rt:76:9
 returns-8 : tie.Need-returns-8
 returns-8 c =
     let v = c .before .before .before in
@@ -138,19 +106,15 @@ returns-8 c =
     (at-large-third _ _ (e .before .wide .ensures) (e .if2 .left) (w .wide2 .ensures) (v .before .before .before .if4 .left) (v .wide3 .ensures)
     (omega arith) (c .before .if8 .taken))
 
--- src/number.rt:78:32
 join-requires-2 : tie.Need-join-requires-2
 join-requires-2 c κs = search needs
 
--- src/number.rt:78:22
 join-requires-3 : tie.Need-join-requires-3
 join-requires-3 c κs = search needs
 
--- src/number.rt:78:53
 add-t7 : tie.Need-add-t7
 add-t7 c = search needs
 
--- src/number.rt:47:1
 returns-9 : tie.Need-returns-9
 returns-9 c =
     let v = c .before .before .before .before in

@@ -8,9 +8,6 @@ use Rattle.files.proofs.Inverse.{told-as}
 use Rattle.files.proofs.Words.{words-stop, end-left, end-exact, counted-more}
 use Rattle.files.proofs.reader.check_words.Statement.{statement}
 use Rattle.files.proofs.reader.check_words.Tie as tie
-use Rattle.files.proofs.reader.check_words.Reads as reads
-use Rattle.files.proofs.reader.check_words.Lts as lts
-use Rattle.files.proofs.reader.word_at.Reads as word-at-reads
 
 abbrev Inv-loop : tie.InvT-loop
 Inv-loop bytes start count at₀ left₀ at left = (left < 2 ^ 32) × (counted count (wordsAt count bytes start) ≡ counted count (wordsAt left bytes at))
@@ -18,38 +15,30 @@ Inv-loop bytes start count at₀ left₀ at left = (left < 2 ^ 32) × (counted c
 abbrev μ-loop : tie.MeasureT-loop
 μ-loop bytes start count at₀ left₀ at left = left
 
--- src/reader.rt:120:5
 loop-holds : tie.Need-loop-holds Inv-loop μ-loop
 loop-holds c = (omega arith, refl)
 
--- src/reader.rt:121:15
 word-at-requires : tie.Need-word-at-requires Inv-loop μ-loop
 word-at-requires c κs = search needs
 
--- src/reader.rt:122:33
 enum-known-next : tie.Need-enum-known-next Inv-loop μ-loop
 enum-known-next c = search needs
 
--- src/reader.rt:125:29
 enum-known-refusal : tie.Need-enum-known-refusal Inv-loop μ-loop
 enum-known-refusal c = search needs
 
--- src/reader.rt:126:17
 returns : tie.Need-returns Inv-loop μ-loop
 returns c =
     let w = c .before .before .before in
     let l = w .before .before in
     rw (l .loop .inv .1, words-stop _ _ _ (w .before .loop-test .taken) (told-as (w .word-at .ensures) (c .before .refusal .given .1)))
 
--- src/reader.rt:129:9
 sub-left : tie.Need-sub-left Inv-loop μ-loop
 sub-left c = search needs
 
--- src/reader.rt:120:5
 loop-less : tie.Need-loop-less Inv-loop μ-loop
 loop-less c = search needs
 
--- src/reader.rt:120:5
 loop-again : tie.Need-loop-again Inv-loop μ-loop
 loop-again c =
     let w = c .before .before .before in
@@ -59,14 +48,12 @@ loop-again c =
           ∙ counted-more _ _ _ _ (w .before .loop-test .taken) (told-as (w .word-at .ensures) (c .before .next .given .1)),
     )
 
--- src/reader.rt:132:9
 returns-2 : tie.Need-returns-2 Inv-loop μ-loop
 returns-2 c =
     let l = c .before .before in
     let z : l .loop .left ≡ 0 = omega arith in
     rw (l .loop .inv .1, z, end-left _ _ (c .if1 .taken))
 
--- src/reader.rt:115:1
 returns-3 : tie.Need-returns-3 Inv-loop μ-loop
 returns-3 c =
     let l = c .before .before in

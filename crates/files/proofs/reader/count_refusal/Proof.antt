@@ -1,18 +1,13 @@
 use borrow.Author.Tests.{lt-ltb, le-ltb}
 use Rattle.files.proofs.reader.count_refusal.Statement.{statement}
 use Rattle.files.proofs.reader.count_refusal.Tie as tie
-use Rattle.files.proofs.reader.count_refusal.Reads as reads
-use Rattle.files.proofs.reader.count_refusal.Lts as lts
 
--- src/reader.rt:57:9
 returns : tie.Need-returns
 returns c = rw (lt-ltb _ _ (c .if1 .taken))
 
--- src/reader.rt:60:9
 returns-2 : tie.Need-returns-2
 returns-2 c = rw (le-ltb _ _ (c .before .if1 .left), lt-ltb _ _ (c .if2 .taken))
 
--- src/reader.rt:53:1
 returns-3 : tie.Need-returns-3
 returns-3 c = rw (le-ltb _ _ (c .before .if1 .left), le-ltb _ _ (c .if2 .left))
 

@@ -2,40 +2,28 @@ use Rattle.files.specs.Reading.{fieldAt}
 use borrow.Author.Needs.{needs}
 use Rattle.files.proofs.reader.field_at.Statement.{statement}
 use Rattle.files.proofs.reader.field_at.Tie as tie
-use Rattle.files.proofs.reader.field_at.Reads as reads
-use Rattle.files.proofs.reader.field_at.Lts as lts
-use Rattle.files.proofs.number.number_at.Reads as number-at-reads
-use Rattle.files.proofs.reader.own_refusal.Reads as own-refusal-reads
-use Rattle.files.proofs.reader.owned.Reads as owned-reads
 
--- src/reader.rt:69:11
 number-at-requires : tie.Need-number-at-requires
 number-at-requires c κs = search needs
 
--- src/reader.rt:70:26
 enum-known-value : tie.Need-enum-known-value
 enum-known-value c = search needs
 
--- src/reader.rt:70:65
 own-refusal-requires : tie.Need-own-refusal-requires
 own-refusal-requires c κs = search needs
 
--- src/reader.rt:70:42
 owned-requires : tie.Need-owned-requires
 owned-requires c κs = search needs
 
--- src/reader.rt:71:25
 enum-known-refusal : tie.Need-enum-known-refusal
 enum-known-refusal c = search needs
 
--- src/reader.rt:66:1
 returns : tie.Need-returns
 unfolding fieldAt
 returns c =
     let v = c .before .before .before in
     rw (c .owned .ensures, ← v .before .before .number-at .ensures, v .value .given .1, c .before .own-refusal .ensures)
 
--- src/reader.rt:66:1
 returns-2 : tie.Need-returns-2
 unfolding fieldAt
 returns-2 c = rw (← c .before .before .before .number-at .ensures, c .before .refusal .given .1)

@@ -5,25 +5,16 @@ use Rattle.files.proofs.Inverse.{told-as, field-of}
 use borrow.Author.Needs.{needs}
 use Rattle.files.proofs.reader.operand_at.Statement.{statement}
 use Rattle.files.proofs.reader.operand_at.Tie as tie
-use Rattle.files.proofs.reader.operand_at.Reads as reads
-use Rattle.files.proofs.reader.operand_at.Lts as lts
-use Rattle.files.proofs.reader.field_at.Reads as field-at-reads
-use Rattle.files.proofs.reader.word_of.Reads as word-of-reads
-use Rattle.words.proofs.form_of.Reads as form-of-reads
 
--- src/reader.rt:88:35
 form-of-requires : tie.Need-form-of-requires
 form-of-requires c κs = search needs
 
--- src/reader.rt:88:11
 field-at-requires : tie.Need-field-at-requires
 field-at-requires c κs = search needs
 
--- src/reader.rt:89:26
 enum-known-operand : tie.Need-enum-known-operand
 enum-known-operand c = search needs
 
--- src/reader.rt:89:61
 word-of-requires : tie.Need-word-of-requires
 word-of-requires c κs =
     let f = c .before .before .before in
@@ -33,11 +24,9 @@ word-of-requires c κs =
     let o = rw (f .before .form-of .ensures) at (field-of _ _ _ e .passes) in
     (omega (arith, k .1), omega (arith, known-register _ (a .pre .1)), omega (arith, known-operand _ _ _ _ (a .pre .0) o))
 
--- src/reader.rt:90:25
 enum-known-refusal : tie.Need-enum-known-refusal
 enum-known-refusal c = search needs
 
--- src/reader.rt:84:1
 returns : tie.Need-returns
 unfolding operandAt
 returns c =
@@ -45,7 +34,6 @@ returns c =
     let f = o .before .before in
     rw (c .word-of .ensures, ← f .before .form-of .ensures, told-as (f .field-at .ensures) (o .operand .given .1))
 
--- src/reader.rt:84:1
 returns-2 : tie.Need-returns-2
 unfolding operandAt
 returns-2 c =

@@ -1,58 +1,40 @@
 use borrow.Author.Needs.{needs}
 use Rattle.files.proofs.reader.own_refusal.Statement.{statement}
 use Rattle.files.proofs.reader.own_refusal.Tie as tie
-use Rattle.files.proofs.reader.own_refusal.Reads as reads
-use Rattle.files.proofs.reader.own_refusal.Lts as lts
-use Rattle.files.proofs.reader.count_refusal.Reads as count-refusal-reads
-use Rattle.words.proofs.operand_refusal.Reads as operand-refusal-reads
-use Rattle.words.proofs.operation_refusal.Reads as operation-refusal-reads
-use Rattle.words.proofs.register_refusal.Reads as register-refusal-reads
 
--- src/reader.rt:45:22
 enum-known-field : tie.Need-enum-known-field
 enum-known-field c = search needs
 
--- src/reader.rt:45:31
 count-refusal-requires : tie.Need-count-refusal-requires
 count-refusal-requires c κs = search needs
 
--- src/reader.rt:46:29
 enum-told : tie.Need-enum-told
 enum-told c = search needs
 
--- src/reader.rt:46:29
 operation-refusal-requires : tie.Need-operation-refusal-requires
 operation-refusal-requires c κs = search needs
 
--- src/reader.rt:47:22
 enum-told-2 : tie.Need-enum-told-2
 enum-told-2 c = search needs
 
--- src/reader.rt:47:22
 register-refusal-requires : tie.Need-register-refusal-requires
 register-refusal-requires c κs = search needs
 
--- src/reader.rt:48:24
 enum-known-field-2 : tie.Need-enum-known-field-2
 enum-known-field-2 c = search needs
 
--- src/reader.rt:48:33
 operand-refusal-requires : tie.Need-operand-refusal-requires
 operand-refusal-requires c κs = search needs
 
--- src/reader.rt:41:1
 returns : tie.Need-returns
 returns c = rw (c .before .before .field .given .1) (c .count-refusal .ensures)
 
--- src/reader.rt:41:1
 returns-2 : tie.Need-returns-2
 returns-2 c = rw (c .before .enum-told .given .1) (c .operation-refusal .ensures)
 
--- src/reader.rt:41:1
 returns-3 : tie.Need-returns-3
 returns-3 c = rw (c .before .enum-told2 .given .1) (c .register-refusal .ensures)
 
--- src/reader.rt:41:1
 returns-4 : tie.Need-returns-4
 returns-4 c = rw (c .before .before .field2 .given .1) (c .operand-refusal .ensures)
 

@@ -3,36 +3,26 @@ use Rattle.files.proofs.Inverse.{told-as, field-of}
 use borrow.Author.Needs.{needs}
 use Rattle.files.proofs.reader.r1_at.Statement.{statement}
 use Rattle.files.proofs.reader.r1_at.Tie as tie
-use Rattle.files.proofs.reader.r1_at.Reads as reads
-use Rattle.files.proofs.reader.r1_at.Lts as lts
-use Rattle.files.proofs.reader.field_at.Reads as field-at-reads
-use Rattle.files.proofs.reader.operand_at.Reads as operand-at-reads
 
--- src/reader.rt:99:11
 field-at-requires : tie.Need-field-at-requires
 field-at-requires c κs = search needs
 
--- src/reader.rt:100:26
 enum-known-r1 : tie.Need-enum-known-r1
 enum-known-r1 c = search needs
 
--- src/reader.rt:100:39
 operand-at-requires : tie.Need-operand-at-requires
 operand-at-requires c κs =
     (c .before .before .before .before .before .pre, field-of _ _ _ (told-as (c .before .before .before .field-at .ensures) (c .before .r1 .given .1)) .passes)
 
--- src/reader.rt:101:25
 enum-known-refusal : tie.Need-enum-known-refusal
 enum-known-refusal c = search needs
 
--- src/reader.rt:95:1
 returns : tie.Need-returns
 unfolding r1At
 returns c =
     let v = c .before .before in
     rw (told-as (v .before .before .field-at .ensures) (v .r1 .given .1)) (c .operand-at .ensures)
 
--- src/reader.rt:95:1
 returns-2 : tie.Need-returns-2
 unfolding r1At
 returns-2 c = rw (told-as (c .before .before .before .field-at .ensures) (c .before .refusal .given .1))

@@ -4,34 +4,24 @@ use Rattle.files.proofs.Passed.{count-of}
 use borrow.Author.Needs.{needs}
 use Rattle.files.proofs.reader.read.Statement.{statement}
 use Rattle.files.proofs.reader.read.Tie as tie
-use Rattle.files.proofs.reader.read.Reads as reads
-use Rattle.files.proofs.reader.read.Lts as lts
-use Rattle.files.proofs.reader.field_at.Reads as field-at-reads
-use Rattle.files.proofs.reader.read_words.Reads as read-words-reads
 
--- src/reader.rt:184:11
 field-at-requires : tie.Need-field-at-requires
 field-at-requires c κs = search needs
 
--- src/reader.rt:185:26
 enum-known-count : tie.Need-enum-known-count
 enum-known-count c = search needs
 
--- src/reader.rt:185:43
 read-words-requires : tie.Need-read-words-requires
 read-words-requires c κs =
     let n = c .before .before in
     count-of _ _ (field-of _ _ _ (told-as (n .before .before .field-at .ensures) (n .count .given .1)) .passes) .1
 
--- src/reader.rt:186:25
 enum-known-refusal : tie.Need-enum-known-refusal
 enum-known-refusal c = search needs
 
--- src/reader.rt:181:1
 same-length : tie.Need-same-length
 same-length c = search needs
 
--- src/reader.rt:181:1
 returns : tie.Need-returns
 unfolding listIn
 returns c =
@@ -40,7 +30,6 @@ returns c =
     let e = told-as (n .before .before .field-at .ensures) (n .count .given .1) in
     (rw e (r .read-words .ensures .0), rw e (r .read-words .ensures .1))
 
--- src/reader.rt:181:1
 returns-2 : tie.Need-returns-2
 unfolding listIn
 returns-2 c =

@@ -5,20 +5,13 @@ use Rattle.files.proofs.Passed.{passed-of, failed-of, passed-good, pass
 use borrow.Author.Needs.{needs}
 use Rattle.files.proofs.reader.read_words.Statement.{statement}
 use Rattle.files.proofs.reader.read_words.Tie as tie
-use Rattle.files.proofs.reader.read_words.Reads as reads
-use Rattle.files.proofs.reader.read_words.Lts as lts
-use Rattle.files.proofs.reader.check_words.Reads as check-words-reads
-use Rattle.files.proofs.reader.store_words.Reads as store-words-reads
 
--- src/reader.rt:163:11
 check-words-requires : tie.Need-check-words-requires
 check-words-requires c κs = search needs
 
--- src/reader.rt:164:29
 enum-known-end : tie.Need-enum-known-end
 enum-known-end c = search needs
 
--- src/reader.rt:165:13
 store-words-requires : tie.Need-store-words-requires
 store-words-requires c κs =
     let e = c .before .before in
@@ -26,15 +19,12 @@ store-words-requires c κs =
     let o = w .before .before .before in
     (passed-good (passed-of (o .args .bytes .now) (o .args .start) (o .args .count) (told-as (w .check-words .ensures) (e .end .given .1))), o .pre)
 
--- src/reader.rt:172:25
 enum-known-refusal : tie.Need-enum-known-refusal
 enum-known-refusal c = search needs
 
--- src/reader.rt:159:1
 same-length : tie.Need-same-length
 same-length c = search needs
 
--- src/reader.rt:159:1
 returns : tie.Need-returns
 returns c =
     let s = c .before .before in
@@ -44,7 +34,6 @@ returns c =
     let p = passed-of (o .args .bytes .now) (o .args .start) (o .args .count) (told-as (w .check-words .ensures) (e .end .given .1)) in
     (passed-answer p, s .store-words .ensures ∙ passed-stored p _ (o .pre))
 
--- src/reader.rt:159:1
 returns-2 : tie.Need-returns-2
 returns-2 c =
     let w = c .before .before .before in

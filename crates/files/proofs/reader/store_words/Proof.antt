@@ -11,9 +11,6 @@ use Rattle.files.proofs.Inverse.{told-as}
 use Rattle.files.proofs.Words.{Storing, storing-none, storing-more, storing-stops, storing-all}
 use Rattle.files.proofs.reader.store_words.Statement.{statement}
 use Rattle.files.proofs.reader.store_words.Tie as tie
-use Rattle.files.proofs.reader.store_words.Reads as reads
-use Rattle.files.proofs.reader.store_words.Lts as lts
-use Rattle.files.proofs.reader.word_at.Reads as word-at-reads
 
 abbrev Inv-loop : tie.InvT-loop
 Inv-loop bytes start count words₀ at₀ i₀ words at i = Storing bytes start count words₀ words at i
@@ -21,59 +18,46 @@ Inv-loop bytes start count words₀ at₀ i₀ words at i = Storing bytes start 
 abbrev μ-loop : tie.MeasureT-loop
 μ-loop bytes start count words₀ at₀ i₀ words at i = count - i
 
--- src/reader.rt:144:5
 loop-holds : tie.Need-loop-holds Inv-loop μ-loop
 loop-holds c = storing-none _ _ _ _ (c .before .before .pre .0)
 
--- src/reader.rt:145:15
 word-at-requires : tie.Need-word-at-requires Inv-loop μ-loop
 word-at-requires c κs = search needs
 
--- src/reader.rt:146:30
 enum-known-word : tie.Need-enum-known-word Inv-loop μ-loop
 enum-known-word c = search needs
 
--- src/reader.rt:147:17
 mul-words : tie.Need-mul-words Inv-loop μ-loop
 mul-words c = search needs
 
--- src/reader.rt:147:17
 slice-write-words : tie.Need-slice-write-words Inv-loop μ-loop
 slice-write-words c = search needs
 
--- src/reader.rt:151:17
 enum-told : tie.Need-enum-told Inv-loop μ-loop
 enum-told c = search needs
 
--- src/reader.rt:151:17
 same-length : tie.Need-same-length Inv-loop μ-loop
 same-length c = c .before .before .before .before .loop .inv .same
 
--- src/reader.rt:151:17
 returns : tie.Need-returns Inv-loop μ-loop
 returns c =
     let w = c .before .before in
     storing-stops _ _ _ _ (w .before .before .loop .inv) (w .before .loop-test .taken) (told-as (w .word-at .ensures) (c .enum-told .given .1))
 
--- src/reader.rt:154:9
 add-i : tie.Need-add-i Inv-loop μ-loop
 add-i c = search needs
 
--- src/reader.rt:144:5
 loop-less : tie.Need-loop-less Inv-loop μ-loop
 loop-less c = search needs
 
--- src/reader.rt:144:5
 loop-again : tie.Need-loop-again Inv-loop μ-loop
 loop-again c =
     let w = c .before .before .before in
     storing-more _ _ _ _ (w .before .before .loop .inv) (w .before .loop-test .taken) (told-as (w .word-at .ensures) (c .before .word .given .1))
 
--- src/reader.rt:138:1
 same-length-2 : tie.Need-same-length-2 Inv-loop μ-loop
 same-length-2 c = c .before .loop .inv .same
 
--- src/reader.rt:138:1
 returns-2 : tie.Need-returns-2 Inv-loop μ-loop
 returns-2 c = storing-all _ _ _ _ (c .before .loop .inv) (c .loop-test .left)
 

@@ -3,36 +3,26 @@ use Rattle.files.proofs.Inverse.{told-as, field-of}
 use borrow.Author.Needs.{needs}
 use Rattle.files.proofs.reader.word_at.Statement.{statement}
 use Rattle.files.proofs.reader.word_at.Tie as tie
-use Rattle.files.proofs.reader.word_at.Reads as reads
-use Rattle.files.proofs.reader.word_at.Lts as lts
-use Rattle.files.proofs.reader.field_at.Reads as field-at-reads
-use Rattle.files.proofs.reader.r1_at.Reads as r1-at-reads
 
--- src/reader.rt:108:11
 field-at-requires : tie.Need-field-at-requires
 field-at-requires c κs = search needs
 
--- src/reader.rt:109:26
 enum-known-operation : tie.Need-enum-known-operation
 enum-known-operation c = search needs
 
--- src/reader.rt:109:46
 r1-at-requires : tie.Need-r1-at-requires
 r1-at-requires c κs =
     field-of _ _ _ (told-as (c .before .before .before .field-at .ensures) (c .before .operation .given .1)) .passes
 
--- src/reader.rt:110:25
 enum-known-refusal : tie.Need-enum-known-refusal
 enum-known-refusal c = search needs
 
--- src/reader.rt:105:1
 returns : tie.Need-returns
 unfolding wordAt
 returns c =
     let v = c .before .before in
     rw (told-as (v .before .before .field-at .ensures) (v .operation .given .1)) (c .r1-at .ensures)
 
--- src/reader.rt:105:1
 returns-2 : tie.Need-returns-2
 unfolding wordAt
 returns-2 c = rw (told-as (c .before .before .before .field-at .ensures) (c .before .refusal .given .1))

@@ -4,10 +4,7 @@ use native.Mathlib.Omega.{arith}
 use lib.Bits.{or-shifted}
 use Rattle.files.proofs.reader.word_of.Statement.{statement}
 use Rattle.files.proofs.reader.word_of.Tie as tie
-use Rattle.files.proofs.reader.word_of.Reads as reads
-use Rattle.files.proofs.reader.word_of.Lts as lts
 
--- src/reader.rt:76:1
 returns : tie.Need-returns
 returns c =
     let a = c .args in

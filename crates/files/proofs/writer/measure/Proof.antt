@@ -1,0 +1,103 @@
+use mathlib.Core.Path.{sym, _∙_}
+use Prim.Native.Nat.{_-_}
+use native.Mathlib.Omega.{arith}
+use borrow.Author.Needs.{needs}
+use lib.ListN.{length, getD}
+use Rattle.files.proofs.Laid.{nine-bytes}
+use Rattle.files.proofs.Measured.{Sizing, too-long, sizing-none, sizing-more, sizing-bad, sizing-all}
+use Rattle.files.proofs.writer.measure.Statement.{statement}
+use Rattle.files.proofs.writer.measure.Tie as tie
+
+abbrev Inv-loop : tie.InvT-loop
+Inv-loop list size₀ place₀ size place = Sizing list size place
+
+abbrev μ-loop : tie.MeasureT-loop
+μ-loop list size₀ place₀ size place = length list - place
+
+returns : tie.Need-returns Inv-loop μ-loop
+returns c = too-long _ (c .if1 .taken)
+
+cast-number-size : tie.Need-cast-number-size Inv-loop μ-loop
+cast-number-size c = search needs
+
+number-size-requires : tie.Need-number-size-requires Inv-loop μ-loop
+number-size-requires c κs = search needs
+
+loop-holds : tie.Need-loop-holds Inv-loop μ-loop
+loop-holds c = sizing-none _ (c .number-size .ensures)
+
+mul-word-refusal : tie.Need-mul-word-refusal Inv-loop μ-loop
+mul-word-refusal c = search needs
+
+shared-slice-read-word-refusal : tie.Need-shared-slice-read-word-refusal Inv-loop μ-loop
+shared-slice-read-word-refusal c = search needs
+
+word-refusal-requires : tie.Need-word-refusal-requires Inv-loop μ-loop
+word-refusal-requires c κs = search needs
+
+returns-2 : tie.Need-returns-2 Inv-loop μ-loop
+returns-2 c =
+    let w = c .before in
+    let t = w .before .before in
+    let l = t .before in
+    sizing-bad _ (l .loop .inv) (t .loop-test .taken) (l .before .before .if1 .left) (w .word-refusal .ensures) (c .if2 .taken)
+
+mul-word-size : tie.Need-mul-word-size Inv-loop μ-loop
+mul-word-size c = search needs
+
+shared-slice-read-word-size : tie.Need-shared-slice-read-word-size Inv-loop μ-loop
+shared-slice-read-word-size c = search needs
+
+word-size-requires : tie.Need-word-size-requires Inv-loop μ-loop
+word-size-requires c κs = search needs
+
+add-size : tie.Need-add-size Inv-loop μ-loop
+add-size c =
+    let t = c .before .before .before .before .before in
+    omega (
+      arith,
+      c .word-size .ensures,
+      nine-bytes (getD (t .before .before .before .before .before .args .list .now) (t .before .loop .place) 0),
+      t .before .loop .inv .small,
+      t .before .loop .inv .within,
+      t .before .before .before .if1 .left,
+    )
+
+add-place : tie.Need-add-place Inv-loop μ-loop
+add-place c = search needs
+
+loop-less : tie.Need-loop-less Inv-loop μ-loop
+loop-less c = search needs
+
+loop-again : tie.Need-loop-again Inv-loop μ-loop
+loop-again c =
+    let e = c .before .before in
+    let w = e .before in
+    let t = w .before .before in
+    sizing-more _ (t .before .loop .inv) (t .loop-test .taken) (sym (w .word-refusal .ensures) ∙ e .if2 .left) (c .word-size .ensures)
+
+returns-3 : tie.Need-returns-3 Inv-loop μ-loop
+returns-3 c = sizing-all _ (c .before .loop .inv) (c .before .before .before .if1 .left) (c .loop-test .left)
+
+pub measure-spec : {M : Type 1} → statement M
+measure-spec =
+    tie.close
+    (tie.spec
+    Inv-loop
+    μ-loop
+    returns
+    cast-number-size
+    number-size-requires
+    loop-holds
+    mul-word-refusal
+    shared-slice-read-word-refusal
+    word-refusal-requires
+    returns-2
+    mul-word-size
+    shared-slice-read-word-size
+    word-size-requires
+    add-size
+    add-place
+    loop-less
+    loop-again
+    returns-3)

@@ -1,0 +1,73 @@
+use mathlib.Core.Path.{sym}
+use native.Mathlib.Omega.{arith}
+use lib.ListN.{length-append}
+use Rattle.files.specs.Writing.{wordBytes}
+use Rattle.files.proofs.Shortest.{few-bytes}
+use borrow.Author.Needs.{needs}
+use Rattle.files.proofs.writer.word_size.Statement.{statement}
+use Rattle.files.proofs.writer.word_size.Tie as tie
+
+operation-of-requires : tie.Need-operation-of-requires
+operation-of-requires c κs = search needs
+
+number-size-requires : tie.Need-number-size-requires
+number-size-requires c κs = search needs
+
+r1-of-requires : tie.Need-r1-of-requires
+r1-of-requires c κs = search needs
+
+number-size-requires-2 : tie.Need-number-size-requires-2
+number-size-requires-2 c κs = search needs
+
+operand-of-requires : tie.Need-operand-of-requires
+operand-of-requires c κs = search needs
+
+number-size-requires-3 : tie.Need-number-size-requires-3
+number-size-requires-3 c κs = search needs
+
+add-result : tie.Need-add-result
+add-result c =
+    let two = c .before .before in
+    omega (arith, two .number-size2 .ensures, few-bytes (two .before .r1-of .result), c .number-size3 .ensures, few-bytes (c .before .operand-of .result))
+
+add-result-2 : tie.Need-add-result-2
+add-result-2 c =
+    let two = c .before .before in
+    let one = two .before .before in
+    omega (
+      arith,
+      one .number-size .ensures,
+      few-bytes (one .before .operation-of .result),
+      two .number-size2 .ensures,
+      few-bytes (two .before .r1-of .result),
+      c .number-size3 .ensures,
+      few-bytes (c .before .operand-of .result),
+    )
+
+returns : tie.Need-returns
+unfolding wordBytes
+returns c =
+    let two = c .before .before in
+    let one = two .before .before in
+    rw (
+      one .number-size .ensures,
+      one .before .operation-of .ensures,
+      two .number-size2 .ensures,
+      two .before .r1-of .ensures,
+      c .number-size3 .ensures,
+      c .before .operand-of .ensures,
+    ) (sym (simp length-append))
+
+pub word-size-spec : {M : Type 1} → statement M
+word-size-spec =
+    tie.close
+    (tie.spec
+    operation-of-requires
+    number-size-requires
+    r1-of-requires
+    number-size-requires-2
+    operand-of-requires
+    number-size-requires-3
+    add-result
+    add-result-2
+    returns)
