@@ -1,3 +1,6 @@
+pub mod Backward
+pub mod Determined
+pub mod Forward
 pub mod Groups
 pub mod Inverse
 pub mod Laid
@@ -5,6 +8,9 @@ pub mod Measured
 pub mod NumberAt
 pub mod Passed
 pub mod Peel
+pub mod Refusals
+pub mod RoundTrip
 pub mod Shortest
+pub mod Was
 pub mod Words
 pub mod Wrote
