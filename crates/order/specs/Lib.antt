@@ -1,0 +1,15 @@
+pub mod Rows
+pub mod Tags
+pub mod Instruction
+pub mod Machine
+pub mod GoodOrder
+pub mod Issue
+pub mod Steps
+pub mod Count
+pub mod OneAtATime
+pub mod Entries
+pub mod Asked
+pub mod Statement
+pub mod Example
+pub mod GivenMachines
+pub mod Binary64
