@@ -2,7 +2,7 @@
 
 mod commands;
 
-use commands::{lists, sessions, texts, vectors, Outcome, Output};
+use commands::{lists, sessions, steps, texts, vectors, Outcome, Output};
 use std::io::Write;
 use std::process::ExitCode;
 
@@ -79,6 +79,12 @@ const COMMANDS: &[Command] = &[
         usage: "FILE..",
         about: "Reads, checks and writes the lists named, and prints what the proved program `lists` should.",
         run: lists::lists,
+    },
+    Command {
+        name: "steps",
+        usage: "SESSION..",
+        about: "Takes the steps of the sessions named, and prints what the proved program `steps` should.",
+        run: steps::steps,
     },
 ];
 

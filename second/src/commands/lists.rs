@@ -54,7 +54,8 @@ fn list_words(text: &mut String, bytes: &[u8]) {
 
 fn say_written(text: &mut String, list: &[u32], bytes: &mut [u8]) -> usize {
     let written = list_file::write(list, bytes);
-    let place = check_list(list, CellLimits::NO_AREAS).map_or_else(|fault| fault.place, |()| list.len());
+    let place =
+        check_list(list, CellLimits::NO_AREAS).map_or_else(|fault| fault.place, |()| list.len());
     let number = Refusal::number_of(&written);
     let length = written.unwrap_or(0);
     let _ = write!(text, " write {number} at {place} length {length}");
@@ -62,6 +63,7 @@ fn say_written(text: &mut String, list: &[u32], bytes: &mut [u8]) -> usize {
 }
 
 fn say(text: &mut String, what: &str, answer: Result<usize, Fault>) {
-    let (number, place) = answer.map_or_else(|fault| (fault.refusal.number(), fault.place), |place| (0, place));
+    let (number, place) =
+        answer.map_or_else(|fault| (fault.refusal.number(), fault.place), |place| (0, place));
     let _ = write!(text, " {what} {number} at {place}");
 }

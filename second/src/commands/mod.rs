@@ -2,6 +2,7 @@
 
 pub mod lists;
 pub mod sessions;
+pub mod steps;
 pub mod texts;
 pub mod vectors;
 

@@ -30,14 +30,15 @@ struct Numbers<'a> {
 impl Numbers<'_> {
     fn next(&mut self) -> usize {
         let is_digit = |at: usize| self.bytes.get(at).is_some_and(u8::is_ascii_digit);
-        let start = (self.at..self.bytes.len()).find(|&at| is_digit(at)).unwrap_or(self.bytes.len());
+        let start =
+            (self.at..self.bytes.len()).find(|&at| is_digit(at)).unwrap_or(self.bytes.len());
         let end = (start..).find(|&at| !is_digit(at)).unwrap();
         self.at = end;
         self.bytes[start..end].iter().fold(0, |value, digit| value * 10 + usize::from(digit - b'0'))
     }
 
     fn quarters(&mut self) -> Number {
-        Number::from(self.next() as f64 / 4.0)
+        Number(self.next() as f64 / 4.0)
     }
 
     fn row<T>(&mut self, read: impl Fn(&mut Self) -> T) -> Vec<T> {
@@ -58,7 +59,7 @@ impl Numbers<'_> {
         if waits {
             Operand::Waits(Tag(value as u8))
         } else {
-            Operand::Number(Number::from(value as f64 / 4.0))
+            Operand::Number(Number(value as f64 / 4.0))
         }
     }
 
@@ -70,13 +71,17 @@ impl Numbers<'_> {
             Operand::Number(number) => number,
             Operand::Waits(_) => Number::ZERO,
         };
-        let operations = [Arithmetic::Add, Arithmetic::Subtract, Arithmetic::Multiply, Arithmetic::Divide];
+        let operations =
+            [Arithmetic::Add, Arithmetic::Subtract, Arithmetic::Multiply, Arithmetic::Divide];
         match kind {
             0 => machine.next = place,
             1 => machine.registers[index] = sink,
             2 => machine.buffers[index] = Buffer::Waiting { place, cell },
             3 => machine.buffers[index] = Buffer::Full { place, number },
-            4 => machine.stations[index] = Station::Holding { place, operation: operations[operation], sink, source },
+            4 => {
+                machine.stations[index] =
+                    Station::Holding { place, operation: operations[operation], sink, source }
+            }
             5 => machine.stations[index] = Station::Done { place, result: number },
             _ => machine.stores[index] = StoreBuffer::Live { place, cell, operand: sink },
         }
