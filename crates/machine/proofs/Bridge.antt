@@ -1,0 +1,77 @@
+-- The order theorem speaks of the code (statements: specs/Chain.antt).
+use mathlib.Core.Path.{_≡_, refl, sym, ap, _∙_}
+use mathlib.Core.Bool.{Bool, true, false, cond, not}
+use mathlib.Core.Option.{Option, none, some}
+use mathlib.Core.List.{List, [], _∷_}
+use Prim.Native.Nat.{ℕ, zero, suc}
+use native.Mathlib.Omega.{arith}
+use lib.Dec.{eqb}
+use lib.Ieee.{Float}
+use lib.ListN.{length, length-set}
+use borrow.Author.Tests.{eqb-true, eqb-false}
+use Rattle.order.specs.Machine as order
+use Rattle.order.specs.Machine.{Lent}
+use Rattle.order.specs.Binary64.{binary64}
+use Rattle.order.specs.Issue.{Answer}
+use Rattle.order.specs.Steps.{step}
+use Rattle.order.specs.OneAtATime.{Run}
+use Rattle.order.specs.Entries.{listRefusal, Fresh, fresh}
+use Rattle.order.specs.Asked.{State, written, logged, after, ask, asked, takenOf, begin}
+use Rattle.order.specs.Statement.{Outcome}
+use Rattle.order.proofs.Theorems.{orderTheorem}
+use Rattle.machine.specs.declared.parts.Stepped.{Stepped}
+use Rattle.machine.specs.declared.start.FreshMachine.{FreshMachine}
+use Rattle.machine.specs.View.{view, viewReleased, viewStepped, lent}
+use Rattle.machine.specs.Answers.{viewFresh}
+use Rattle.machine.specs.Step.{StepAnswer}
+use Rattle.machine.specs.Chain.{Stand, seen, Chained, here, then, Bridge, DemandThree}
+
+-- a release leaves the result area as long as it was
+written-long : (cells : List Float) (o : Option (order.Released Float)) → length (written cells o) ≡ length cells
+written-long cells none = refl
+written-long cells (some r) = length-set cells (r .cell) (r .number)
+
+-- where an answer leads
+abbrev next : Stand → Stepped → List Float → Stand
+next s r cells = record { machine = r .machine; cells = cells; log = logged (s .log) (viewReleased (r .released)) }
+
+module _ (words : List ℕ) (operands : List Float) where
+  -- only the length of the result area counts
+  same-lent : (cells others : List Float) → length cells ≡ length others → lent words operands cells ≡ lent words operands others
+  same-lent cells others e = ap (λ (n : ℕ). record { words = words; operands = operands; results = n }) e
+
+  -- one answer is one code asked
+  one : (s : Stand) (code : ℕ) (r : Stepped) (cells : List Float) → StepAnswer words operands (s .machine) (s .cells) code r cells
+      → ask binary64 (lent words operands (s .cells)) (seen s) code ≡ seen (next s r cells)
+  one s code r cells a =
+      ap (after (seen s)) (sym (a .answer))
+      ∙ ap (λ (c : List Float). record { machine = view (r .machine); cells = c; log = logged (s .log) (viewReleased (r .released)) }) (sym (a .after))
+
+  pub bridge : Bridge words operands
+  bridge s t codes here = refl
+  bridge s t codes (then {code = code} {codes = rest} r cells a chain) =
+      let L = lent words operands (s .cells) in
+      ap (λ (z : State Float). asked binary64 L z rest) (one s code r cells a)
+      ∙ ap (λ (l : Lent Float). asked binary64 l (seen (next s r cells)) rest)
+      (same-lent (s .cells) cells (sym (ap length (a .after) ∙ written-long (s .cells) (viewReleased (r .released)))))
+      ∙ bridge (next s r cells) t rest chain
+
+-- an accepted fresh machine: the list passes
+fresh-passes : (L : Lent Float) (starts : List Float) → fresh binary64 L starts .refusal ≡ 0 → listRefusal binary64 L ≡ 0
+unfolding fresh
+fresh-passes L starts e = go (eqb (listRefusal binary64 L) 0) refl
+  where
+    go : (b : Bool) → eqb (listRefusal binary64 L) 0 ≡ b → listRefusal binary64 L ≡ 0
+    go true t = eqb-true (listRefusal binary64 L) 0 t
+    go false t = rw t at e
+
+pub demand-three : (words : List ℕ) (operands : List Float) → DemandThree words operands
+demand-three words operands starts cells four f made ok t codes chain =
+    let L = lent words operands cells in
+    let start : Run Float = record { registers = starts; cells = cells } in
+    let passes = fresh-passes L starts (ap (λ (x : Fresh Float). x .refusal) (sym made) ∙ ok) in
+    let begun : begin binary64 L start ≡ seen (record { machine = f .machine; cells = cells; log = [] }) =
+    ap (λ (x : Fresh Float). record { machine = x .machine; cells = cells; log = [] }) (sym made) in
+    let reached : asked binary64 L (begin binary64 L start) codes ≡ seen t =
+    ap (λ (z : State Float). asked binary64 L z codes) begun ∙ bridge words operands (record { machine = f .machine; cells = cells; log = [] }) t codes chain in
+    rw reached at (orderTheorem binary64 L start passes four refl codes)

@@ -1,0 +1,101 @@
+-- The contract of each public function determines its answer and what is lent to it.
+use mathlib.Core.Path.{_≡_, refl, sym, ap, _∙_}
+use mathlib.Core.Option.{Option·some-injective}
+use mathlib.Core.List.{List}
+use lib.Ieee.{Float}
+use denote.Ref.{now}
+use Rattle.numbers.proofs.Determined.{Determines, DeterminesLent, one-answer}
+use Rattle.order.specs.Entries as order
+use Rattle.machine.specs.declared.count.Left.{Left}
+use Rattle.machine.specs.declared.start.FreshMachine.{FreshMachine}
+use Rattle.machine.specs.declared.one_at_a_time.Ran.{Ran}
+use Rattle.machine.specs.declared.lowest.Lowest.{Lowest}
+use Rattle.machine.specs.declared.lowest.Lowest.the-variants.{Nothing as NoCode, Code}
+use Rattle.machine.specs.declared.lowest.LowestStep.{LowestStep}
+use Rattle.machine.specs.declared.parts.Released.{Released}
+use Rattle.machine.specs.declared.parts.Released.the-variants.{Nothing, One}
+use Rattle.machine.specs.declared.parts.Stepped.{Stepped}
+use Rattle.machine.specs.View.{view, viewRecord, viewReleased, viewStepped}
+use Rattle.machine.specs.Lowest.{viewLowest, viewLowestStep}
+use Rattle.order.specs.Machine.{Released as ReleasedOf}
+use Rattle.order.specs.Issue.{Answer}
+use Rattle.order.specs.Asked.{written}
+use Rattle.machine.specs.Answers.{viewLeft, viewFresh, viewRan}
+use Rattle.machine.proofs.Exact.{view-exact}
+use Rattle.machine.proofs.good_order.good_order.Kinds as good-order-kinds
+use Rattle.machine.proofs.good_order.good_order.Reads as good-order-reads
+use Rattle.machine.proofs.count.drained.Kinds as drained-kinds
+use Rattle.machine.proofs.count.drained.Reads as drained-reads
+use Rattle.machine.proofs.count.steps_left.Kinds as steps-left-kinds
+use Rattle.machine.proofs.count.steps_left.Reads as steps-left-reads
+use Rattle.machine.proofs.start.fresh.Kinds as fresh-kinds
+use Rattle.machine.proofs.start.fresh.Reads as fresh-reads
+use Rattle.machine.proofs.one_at_a_time.one_at_a_time.Kinds as one-at-a-time-kinds
+use Rattle.machine.proofs.one_at_a_time.one_at_a_time.Reads as one-at-a-time-reads
+use Rattle.machine.proofs.lowest.lowest_step.Kinds as lowest-step-kinds
+use Rattle.machine.proofs.lowest.lowest_step.Reads as lowest-step-reads
+use Rattle.machine.proofs.step.step.Kinds as step-kinds
+use Rattle.machine.proofs.step.step.Reads as step-reads
+
+released-exact : (x y : Released) → viewReleased x ≡ viewReleased y → x ≡ y
+released-exact Nothing Nothing e = refl
+released-exact Nothing (One y) e = cc
+released-exact (One x) Nothing e = cc
+released-exact (One x) (One y) e =
+    ap One (ap (λ (r : ReleasedOf Float). record { place = r .place; cell = r .cell; number = r .number }) (Option·some-injective (viewRecord x) (viewRecord y) e))
+
+code-exact : (x y : Lowest) → viewLowest x ≡ viewLowest y → x ≡ y
+code-exact NoCode NoCode e = refl
+code-exact NoCode (Code c) e = cc
+code-exact (Code c) NoCode e = cc
+code-exact (Code c) (Code d) e = cc
+
+-- the views tell the answers apart
+stepped-exact : (x y : Stepped) → viewStepped x ≡ viewStepped y → x ≡ y
+stepped-exact x y e =
+    let m = view-exact (x .machine) (y .machine) (ap (λ (a : Answer Float). a .machine) e) in
+    let o = released-exact (x .released) (y .released) (ap (λ (a : Answer Float). a .released) e) in
+    λ i. record { machine = m i; refusal = e i .refusal; released = o i }
+
+lowest-exact : (x y : LowestStep) → viewLowestStep x ≡ viewLowestStep y → x ≡ y
+lowest-exact x y e =
+    let o = code-exact (x .code) (y .code) (ap (λ (l : order.LowestStep). l .code) e) in
+    λ i. record { refusal = e i .refusal; code = o i }
+
+left-exact : (x y : Left) → viewLeft x ≡ viewLeft y → x ≡ y
+left-exact x y e = ap (λ (l : order.StepsLeft). record { refusal = l .refusal; left = l .left }) e
+
+fresh-exact : (x y : FreshMachine) → viewFresh x ≡ viewFresh y → x ≡ y
+fresh-exact x y e =
+    let m = view-exact (x .machine) (y .machine) (ap (λ (f : order.Fresh Float). f .machine) e) in
+    λ i. record { machine = m i; refusal = e i .refusal }
+
+ran-exact : (x y : Ran) (cells others : List Float) → viewRan x cells ≡ viewRan y others → (x ≡ y) × (cells ≡ others)
+ran-exact x y cells others e = (
+  ap (λ (r : order.Ran Float). record { registers = r .run .registers; refusal = r .refusal }) e,
+  ap (λ (r : order.Ran Float). r .run .cells) e,
+)
+
+pub good-order-determined : Determines 3 good-order-kinds.ps good-order-kinds.r good-order-reads.Post
+good-order-determined κs a x y s t = one-answer
+
+pub drained-determined : Determines 1 drained-kinds.ps drained-kinds.r drained-reads.Post
+drained-determined κs a x y s t = one-answer
+
+pub steps-left-determined : Determines 3 steps-left-kinds.ps steps-left-kinds.r steps-left-reads.Post
+steps-left-determined κs a x y s t p q = left-exact x y (one-answer p q)
+
+pub fresh-determined : Determines 3 fresh-kinds.ps fresh-kinds.r fresh-reads.Post
+fresh-determined κs a x y s t p q = fresh-exact x y (one-answer p q)
+
+pub one-at-a-time-determined : DeterminesLent 3 one-at-a-time-kinds.ps one-at-a-time-kinds.r one-at-a-time-reads.Post (λ κs s. now (s .1 .1 .0))
+one-at-a-time-determined κs a x y s t p q = ran-exact x y (now (s .1 .1 .0)) (now (t .1 .1 .0)) (one-answer p q)
+
+pub lowest-step-determined : Determines 3 lowest-step-kinds.ps lowest-step-kinds.r lowest-step-reads.Post
+lowest-step-determined κs a x y s t p q = lowest-exact x y (one-answer p q)
+
+-- the machine, the refusal, what was released, and the result cells
+pub step-determined : DeterminesLent 3 step-kinds.ps step-kinds.r step-reads.Post (λ κs s. now (s .1 .1 .1 .0))
+step-determined κs a x y s t p q =
+    let e : x ≡ y = stepped-exact x y (one-answer (p .answer) (q .answer)) in
+    (e, p .after ∙ ap (λ (r : Stepped). written (now (a .1 .1 .1 .0)) (viewReleased (r .released))) e ∙ sym (q .after))

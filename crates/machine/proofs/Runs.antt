@@ -1,0 +1,48 @@
+-- The one-at-a-time run: where it stands after some words of the list.
+use mathlib.Core.Path.{_≡_, refl, sym, ap, _∙_}
+use mathlib.Core.List.{List, [], _∷_}
+use Prim.Native.Nat.{ℕ, _+_, _≤_, _<_}
+use native.Mathlib.Numerals.{add-one}
+use native.Mathlib.Omega.{arith}
+use lib.Ieee.{Float}
+use lib.ListN.{length, getD}
+use Rattle.words.specs.Check.{wordRefusal}
+use Rattle.order.specs.Instruction.{decode}
+use Rattle.order.specs.Machine.{Lent}
+use Rattle.order.specs.OneAtATime.{Run, execute, runTo}
+use Rattle.order.specs.Entries.{listRefusal}
+use Rattle.order.specs.Binary64.{binary64}
+use Rattle.order.proofs.Words.{passes}
+use Rattle.machine.specs.View.{lent}
+use Rattle.machine.specs.Answers.{operandsAlone}
+
+abbrev pub at : (registers cells : List Float) → Run Float
+at registers cells = record { registers = registers; cells = cells }
+
+module _ (words : List ℕ) (operands starts cells : List Float) where
+  pub record Running (registers results : List Float) (place : ℕ) : Type 0 where
+    pub within : place ≤ length words
+    pub same : length results ≡ length cells
+    pub run : at registers results ≡ runTo binary64 (lent words operands cells) (at starts cells) place
+
+module _ {words : List ℕ} {operands starts cells : List Float} where
+  pub running-none : Running words operands starts cells starts cells 0
+  running-none = record { within = omega arith; same = refl; run = refl }
+
+  module _ {registers results : List Float} {place : ℕ} (s : Running words operands starts cells registers results place) where
+    -- the next word has been checked
+    pub running-checked : listRefusal binary64 (lent words operands cells) ≡ 0 → place < length words
+        → wordRefusal (length operands) (length results) (getD words place 0) ≡ 0
+    running-checked z h = rw (s .same) (passes binary64 (lent words operands cells) z .sound place h)
+
+    pub running-more : {after written : List Float} → place < length words → length written ≡ length results
+        → at after written ≡ execute binary64 (operandsAlone operands) (decode (getD words place 0)) (at registers results)
+        → Running words operands starts cells after written (place + 1)
+    running-more h l e = record {
+      within = omega arith;
+      same = l ∙ s .same;
+      run = rw add-one (e ∙ ap (execute binary64 (operandsAlone operands) (decode (getD words place 0))) (s .run));
+    }
+
+    pub running-all : length words ≤ place → at registers results ≡ runTo binary64 (lent words operands cells) (at starts cells) (length words)
+    running-all h = let e : length words ≡ place = omega (arith, s .within) in rw e (s .run)

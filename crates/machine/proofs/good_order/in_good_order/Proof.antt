@@ -1,0 +1,72 @@
+use mathlib.Core.Path.{_≡_, sym, _∙_}
+use borrow.Author.Tests.{le-leb, lt-leb, not-true, not-false}
+use borrow.Author.Needs.{needs}
+use Rattle.order.specs.Binary64.{binary64}
+use Rattle.machine.specs.View.{view}
+use Rattle.machine.proofs.BySlots.{by-slots, row-fails, and-true}
+use Rattle.machine.proofs.good_order.in_good_order.Statement.{statement}
+use Rattle.machine.proofs.good_order.in_good_order.Tie as tie
+
+returns : tie.Need-returns
+returns c = row-fails _ _ _ _ _ 0 (lt-leb _ _ (c .if1 .taken))
+
+buffers-good-requires : tie.Need-buffers-good-requires
+buffers-good-requires c κs = search needs
+
+returns-2 : tie.Need-returns-2
+returns-2 c = row-fails _ _ _ _ _ 1 (sym (c .before .buffers-good .ensures) ∙ not-true _ (c .if2 .taken))
+
+stations-good-requires : tie.Need-stations-good-requires
+stations-good-requires c κs = search needs
+
+returns-3 : tie.Need-returns-3
+returns-3 c = row-fails _ _ _ _ _ 2 (sym (c .before .stations-good .ensures) ∙ not-true _ (c .if3 .taken))
+
+registers-good-requires : tie.Need-registers-good-requires
+registers-good-requires c κs = search needs
+
+returns-4 : tie.Need-returns-4
+returns-4 c = row-fails _ _ _ _ _ 3 (sym (c .before .registers-good .ensures) ∙ not-true _ (c .if4 .taken))
+
+stores-good-requires : tie.Need-stores-good-requires
+stores-good-requires c κs = search needs
+
+returns-5 : tie.Need-returns-5
+returns-5 c = row-fails _ _ _ _ _ 4 (sym (c .before .stores-good .ensures) ∙ not-true _ (c .if5 .taken))
+
+stores-apart-requires : tie.Need-stores-apart-requires
+stores-apart-requires c κs = search needs
+
+returns-6 : tie.Need-returns-6
+returns-6 c =
+    let four = c .before in
+    let three = four .before .before in
+    let two = three .before .before in
+    let one = two .before .before in
+    let start = one .before .before in
+    let a = start .before .before .before .before .before .args in
+    rw (
+      by-slots binary64 (a .list) (a .operands) (a .results) (view (a .m)),
+      le-leb _ _ (start .if1 .left),
+      sym (one .before .buffers-good .ensures) ∙ not-false _ (one .if2 .left),
+      sym (two .before .stations-good .ensures) ∙ not-false _ (two .if3 .left),
+      sym (three .before .registers-good .ensures) ∙ not-false _ (three .if4 .left),
+      sym (four .before .stores-good .ensures) ∙ not-false _ (four .if5 .left),
+      ← (c .stores-apart .ensures),
+    ) (sym (and-true (c .stores-apart .result)))
+
+pub in-good-order-spec : {M : Type 1} → statement M
+in-good-order-spec =
+    tie.close
+    (tie.spec
+    returns
+    buffers-good-requires
+    returns-2
+    stations-good-requires
+    returns-3
+    registers-good-requires
+    returns-4
+    stores-good-requires
+    returns-5
+    stores-apart-requires
+    returns-6)

@@ -1,0 +1,59 @@
+use mathlib.Core.Path.{sym, ap, _∙_}
+use mathlib.Core.Option.{Option}
+use Prim.Native.Nat.{ℕ}
+use borrow.Author.Tests.{not-true, not-false}
+use lib.Ieee.{Float}
+use Rattle.order.specs.Machine.{Lent}
+use Rattle.order.specs.Binary64.{binary64}
+use Rattle.machine.specs.View.{view, lent}
+use Rattle.machine.proofs.Checked.{lowest-refused, lowest-disordered, lowest-found}
+use borrow.Author.Needs.{needs}
+use Rattle.machine.proofs.lowest.lowest_step.Statement.{statement}
+use Rattle.machine.proofs.lowest.lowest_step.Tie as tie
+
+abbrev start : tie.After-check-list-against → tie.Start
+start v = v .before .before .before .before
+
+abbrev lent-to : tie.After-check-list-against → Lent Float
+lent-to v = let a = start v .args in lent (a .words .now) (a .operands .now) (a .results .now)
+
+check-list-against-requires : tie.Need-check-list-against-requires
+check-list-against-requires c κs = search needs
+
+returns : tie.Need-returns
+returns c =
+    let v = c .before in
+    lowest-refused binary64 (lent-to v) (v .check-list-against .ensures) (c .if1 .taken) (view (start v .args .m))
+
+in-good-order-requires : tie.Need-in-good-order-requires
+in-good-order-requires c κs = search needs
+
+returns-2 : tie.Need-returns-2
+returns-2 c =
+    let g = c .before in
+    let v = g .before .before in
+    lowest-disordered binary64 (lent-to v) (v .check-list-against .ensures) (g .before .if1 .left) (view (start v .args .m))
+    (sym (g .in-good-order .ensures) ∙ not-true _ (c .if2 .taken))
+
+lowest-permitted-requires : tie.Need-lowest-permitted-requires
+lowest-permitted-requires c κs = search needs
+
+returns-3 : tie.Need-returns-3
+returns-3 c =
+    let e = c .before in
+    let g = e .before in
+    let v = g .before .before in
+    ap (λ (o : Option ℕ). record { refusal = 0; code = o }) (c .lowest-permitted .ensures)
+    ∙ lowest-found binary64 (lent-to v) (v .check-list-against .ensures) (g .before .if1 .left) (view (start v .args .m))
+    (sym (g .in-good-order .ensures) ∙ not-false _ (e .if2 .left))
+
+pub lowest-step-spec : {M : Type 1} → statement M
+lowest-step-spec =
+    tie.close
+    (tie.spec
+    check-list-against-requires
+    returns
+    in-good-order-requires
+    returns-2
+    lowest-permitted-requires
+    returns-3)

@@ -1,0 +1,54 @@
+-- Answers of `step`, chained over any codes; and demand 3 of them. Nothing is said of how an answer was made: only that it meets its contract.
+use mathlib.Core.Path.{_≡_}
+use mathlib.Core.List.{List, [], _∷_, _++_}
+use Prim.Native.Nat.{ℕ}
+use lib.Ieee.{Float}
+use lib.ListN.{length}
+use Rattle.order.specs.Machine as order
+use Rattle.order.specs.Tags.{registerCount}
+use Rattle.order.specs.Binary64.{binary64}
+use Rattle.order.specs.OneAtATime.{Run}
+use Rattle.order.specs.Entries.{fresh}
+use Rattle.order.specs.Asked.{State, logged, asked, takenOf, begin}
+use Rattle.order.specs.Statement.{Outcome}
+use Rattle.machine.specs.declared.parts.Machine.{Machine}
+use Rattle.machine.specs.declared.parts.Stepped.{Stepped}
+use Rattle.machine.specs.declared.start.FreshMachine.{FreshMachine}
+use Rattle.machine.specs.View.{view, viewReleased, lent}
+use Rattle.machine.specs.Answers.{viewFresh}
+use Rattle.machine.specs.Step.{StepAnswer}
+
+-- a machine of the code, its result cells, and what was released so far
+pub record Stand : Type 0 where
+  pub machine : Machine
+  pub cells : List Float
+  pub log : List (order.Released Float)
+
+-- as the theory sees it
+abbrev pub seen : Stand → State Float
+seen s = record { machine = view (s .machine); cells = s .cells; log = s .log }
+
+module _ (words : List ℕ) (operands : List Float) where
+  -- from one stand to another by answers that meet the contract of `step`, one for each code
+  pub data Chained : Stand → List ℕ → Stand → Type 0 where
+    here : {s : Stand} → Chained s [] s
+    then : {s t : Stand} {code : ℕ} {codes : List ℕ} (r : Stepped) (cells : List Float)
+        → StepAnswer words operands (s .machine) (s .cells) code r cells
+        → Chained (record { machine = r .machine; cells = cells; log = logged (s .log) (viewReleased (r .released)) }) codes t
+        → Chained s (code ∷ codes) t
+
+  -- THE BRIDGE: chained answers are the theory's `asked`, cells and releases with them
+  abbrev pub Bridge : Type 0
+  Bridge =
+      (s t : Stand) (codes : List ℕ) → Chained s codes t → asked binary64 (lent words operands (s .cells)) (seen s) codes ≡ seen t
+
+  -- DEMAND 3 OF THE CODE: an accepted answer of `fresh`, then answers of `step` over any codes
+  abbrev pub DemandThree : Type 0
+  DemandThree =
+      (starts cells : List Float) → length starts ≡ registerCount → (f : FreshMachine)
+      → viewFresh f ≡ fresh binary64 (lent words operands cells) starts
+      → f .refusal ≡ 0
+      → (t : Stand) (codes : List ℕ) → Chained (record { machine = f .machine; cells = cells; log = [] }) codes t
+      → let L = lent words operands cells in
+      let start : Run Float = record { registers = starts; cells = cells } in
+      Outcome binary64 L start (seen t) (takenOf binary64 L (begin binary64 L start) codes)

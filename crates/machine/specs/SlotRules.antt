@@ -1,0 +1,89 @@
+-- Good order slot by slot: one test a slot, with all its rules at once, then a row, then the machine. That it is the good order of crate
+-- order, which goes clause by clause, is shown in proofs/BySlots.antt.
+use mathlib.Core.Bool.{Bool, true, false, _&&_, _||_}
+use mathlib.Core.List.{List, [], _∷_}
+use Prim.Native.Nat.{ℕ}
+use lib.Dec.{ltb, leb, eqb}
+use lib.ListN.{getD}
+use Rattle.words.specs.Instructions.{isCell}
+use Rattle.order.specs.Rows.{allOf, allBelow}
+use Rattle.order.specs.Tags.{registerCount, bufferCount, stationCount, storeCount, suits}
+use Rattle.order.specs.Machine.{Kind, Operand, num, tag, Buffer, freeBuffer, waiting, full, Station, freeStation, holding, done, StoreBuffer, freeStore, live, Machine, storeCell}
+use Rattle.order.specs.GoodOrder as order
+use Rattle.order.specs.GoodOrder.{nobody, fromBuffer, fromStation, isSome, giverOf, apart}
+use Rattle.machine.specs.declared.giver.Giver.{Giver}
+use Rattle.machine.specs.declared.giver.Giver.the-variants.{Nobody, FromBuffer, FromStation}
+
+abbrev pub viewGiver : Giver → order.Giver
+viewGiver Nobody = nobody
+viewGiver (FromBuffer p) = fromBuffer p
+viewGiver (FromStation p) = fromStation p
+
+-- somebody gives, and "a tag held at place q names a buffer of place at most q or a station of place below q"
+abbrev pub givesAt : (q : ℕ) → order.Giver → Bool
+givesAt q nobody = false
+givesAt q (fromBuffer p) = leb p q
+givesAt q (fromStation p) = ltb p q
+
+module _ {A : Type 0} where
+  -- "free, waiting (place, cell) or full (place, number)"
+  abbrev pub bufferGood : (next operands : ℕ) → Buffer A → Bool
+  bufferGood next operands freeBuffer = true
+  bufferGood next operands (waiting p c) = ltb p next && isCell operands c
+  bufferGood next operands (full p v) = ltb p next
+
+  abbrev pub buffersGood : (next operands : ℕ) → List (Buffer A) → Bool
+  buffersGood next operands bs = allBelow bufferCount (λ i. bufferGood next operands (getD bs i freeBuffer))
+
+  -- "no two live store buffers have the same cell"
+  abbrev pub cellsApart : StoreBuffer A → StoreBuffer A → Bool
+  cellsApart a b = apart (storeCell a) (storeCell b)
+
+  abbrev pub storesApart : List (StoreBuffer A) → Bool
+  storesApart ts = allBelow storeCount (λ i. allBelow storeCount (λ j. eqb i j || cellsApart (getD ts i freeStore) (getD ts j freeStore)))
+
+  -- with g, who gives a tag
+  module _ (g : ℕ → order.Giver) where
+    -- "For a register's tag only the naming rule applies."
+    abbrev pub registerGood : Operand A → Bool
+    registerGood (num x) = true
+    registerGood (tag t) = isSome (g t)
+
+    -- an operand held at place q
+    abbrev pub operandGood : (q : ℕ) → Operand A → Bool
+    operandGood q (num x) = true
+    operandGood q (tag t) = givesAt q (g t)
+
+    -- station i: "free, holding (place, operation, sink operand and source operand) or done (place, result)"
+    abbrev pub stationGood : (next i : ℕ) → Station A → Bool
+    stationGood next i freeStation = true
+    stationGood next i (holding p o x y) = ltb p next && (suits i o && (operandGood p x && operandGood p y))
+    stationGood next i (done p v) = ltb p next
+
+    -- "free or live (place, cell, operand)"
+    abbrev pub storeGood : (next results : ℕ) → StoreBuffer A → Bool
+    storeGood next results freeStore = true
+    storeGood next results (live p c x) = ltb p next && (isCell results c && operandGood p x)
+
+    abbrev pub registersGood : (nought : A) → List (Operand A) → Bool
+    registersGood nought rs = allBelow registerCount (λ i. registerGood (getD rs i (num nought)))
+
+    abbrev pub stationsGood : (next : ℕ) → List (Station A) → Bool
+    stationsGood next ss = allBelow stationCount (λ i. stationGood next i (getD ss i freeStation))
+
+    abbrev pub storesGood : (next results : ℕ) → List (StoreBuffer A) → Bool
+    storesGood next results ts = allBelow storeCount (λ i. storeGood next results (getD ts i freeStore))
+
+-- the machine, a row at a time
+abbrev pub rowTests : (K : Kind) (list operands results : ℕ) → Machine (K .Num) → List Bool
+rowTests K list operands results m =
+    leb (m .next) list
+    ∷ buffersGood (m .next) operands (m .buffers)
+    ∷ stationsGood (giverOf m) (m .next) (m .stations)
+    ∷ registersGood (giverOf m) (K .nought) (m .registers)
+    ∷ storesGood (giverOf m) (m .next) results (m .stores)
+    ∷ storesApart (m .stores)
+    ∷ []
+
+abbrev pub goodBySlots : (K : Kind) (list operands results : ℕ) → Machine (K .Num) → Bool
+goodBySlots K list operands results m = allOf (rowTests K list operands results m)
