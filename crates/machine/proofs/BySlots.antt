@@ -1,17 +1,21 @@
 -- Good order slot by slot is good order clause by clause.
-use mathlib.Core.Path.{_≡_, refl, sym, ap, _∙_}
-use mathlib.Core.Bool.{Bool, true, false, _&&_}
+use mathlib.Core.Path.{_≡_, refl, sym, _∙_}
+use mathlib.Core.Bool.{Bool, true, false, not, _&&_}
+use mathlib.Core.Logic.{⊎-elim}
 use mathlib.Core.List.{List, [], _∷_, map}
-use Prim.Native.Nat.{ℕ, zero, suc}
-use lib.Dec.{ltb, leb}
+use Prim.Native.Nat.{ℕ, zero, suc, _≤_, _<_}
+use native.Mathlib.Omega.{arith}
+use lib.Dec.{ltb, leb, eqb}
 use lib.ListN.{getD}
+use borrow.Author.Tests.{ltb-true, leb-true}
 use Rattle.words.specs.Instructions.{isCell}
 use Rattle.order.specs.Rows.{allOf, allBelow}
-use Rattle.order.specs.Tags.{registerCount, bufferCount, stationCount, storeCount}
+use Rattle.order.specs.Tags.{registerCount, bufferCount, stationCount, storeCount, suits}
 use Rattle.order.specs.Machine.{Kind, Operand, num, tag, Buffer, freeBuffer, waiting, full, Station, freeStation, holding, done, StoreBuffer, freeStore, live, Machine, bufferAt, stationAt, storeAt, registerAt, bufferPlace, stationPlace, storePlace, bufferCell, storeCell}
-use Rattle.order.specs.GoodOrder.{Giver, nobody, fromBuffer, fromStation, isSome, before, giverOf, placeBelow, cellIn, named, stationNamed, storeNamed, heldAt, stationHeld, storeHeld, kindFits, placeTests, nameTests, beforeTests, cellTests, clauses, storesApart, goodOrder}
-use Rattle.order.proofs.Rows.{and-i, allOf-at}
-use Rattle.machine.specs.SlotRules.{givesAt, registerGood, operandGood, bufferGood, stationGood, storeGood, buffersGood, stationsGood, registersGood, storesGood, rowTests, goodBySlots}
+use Rattle.order.specs.GoodOrder.{isSome, giverOf, placeBelow, cellIn, named, stationNamed, storeNamed, heldAt, stationHeld, storeHeld, kindFits, placeTests, nameTests, beforeTests, cellTests, clauses, storesApart, goodOrder}
+use Rattle.order.proofs.Rows.{bool-cases, and-i, allOf-at}
+use Rattle.machine.specs.SlotRules.{never, giverPlace, registerGood, operandGood, bufferGood, stationGood, storeGood, buffersGood, stationsGood, registersGood, storesGood, rowTests, goodBySlots}
+use Rattle.machine.proofs.Placed.{held-place, named-place}
 
 -- TESTS
 
@@ -64,18 +68,13 @@ in-rows n r ps h = below-same n r (λ i. allOf (at i ps)) h ∙ below-all n ps
 -- ONE SLOT: all its rules at once, and each in its clause
 
 module _ {A : Type 0} (m : Machine A) where
-  register-rules : (o : Operand A) → registerGood (giverOf m) o ≡ named m o
-  register-rules (num x) = refl
-  register-rules (tag t) = refl
+  register-rules : (o : Operand A) → ((t : ℕ) → not (eqb (giverPlace m t) never) ≡ isSome (giverOf m t)) → registerGood (giverPlace m) o ≡ named m o
+  register-rules (num x) h = refl
+  register-rules (tag t) h = h t
 
-  operand-rules : (q : ℕ) (o : Operand A) → operandGood (giverOf m) q o ≡ named m o && heldAt m q o
-  operand-rules q (num x) = refl
-  operand-rules q (tag t) = go (giverOf m t)
-    where
-      go : (g : Giver) → givesAt q g ≡ isSome g && before q g
-      go nobody = refl
-      go (fromBuffer p) = refl
-      go (fromStation p) = refl
+  operand-rules : (q : ℕ) (o : Operand A) → q < never → operandGood (giverPlace m) q o ≡ named m o && heldAt m q o
+  operand-rules q (num x) h = refl
+  operand-rules q (tag t) h = held-place (m .buffers) (m .stations) q h t
 
   abbrev bufferRules : (next operands : ℕ) → Buffer A → List Bool
   bufferRules next operands b = placeBelow next (bufferPlace b) ∷ cellIn operands (bufferCell b) ∷ []
@@ -88,21 +87,36 @@ module _ {A : Type 0} (m : Machine A) where
   abbrev stationRules : (next i : ℕ) → Station A → List Bool
   stationRules next i s = placeBelow next (stationPlace s) ∷ kindFits i s ∷ stationNamed m s ∷ stationHeld m s ∷ []
 
-  station-rules : (next i : ℕ) (s : Station A) → stationGood (giverOf m) next i s ≡ allOf (stationRules next i s)
-  station-rules next i freeStation = refl
-  station-rules next i (holding p o x y) =
-      rw (operand-rules p x, operand-rules p y, and-swap (named m x) (heldAt m p x) (named m y) (heldAt m p y), and-true (heldAt m p x && heldAt m p y))
-  station-rules next i (done p v) = sym (and-true (ltb p next))
+  -- of a slot at place p, where p is below next, and next no more than never
+  slot-rules : (next p : ℕ) (a b : Bool) → next ≤ never → (p < never → a ≡ b) → ltb p next && a ≡ ltb p next && b
+  slot-rules next p a b s h =
+      ⊎-elim (λ (e : ltb p next ≡ true). rw (h (omega (arith, ltb-true p next e)))) (λ (e : ltb p next ≡ false). rw e) (bool-cases (ltb p next))
+
+  station-rules : (next i : ℕ) (s : Station A) → next ≤ never → stationGood (giverPlace m) next i s ≡ allOf (stationRules next i s)
+  station-rules next i freeStation h = refl
+  station-rules next i (holding p o x y) h =
+      slot-rules next p (suits i o && (operandGood (giverPlace m) p x && operandGood (giverPlace m) p y))
+      (suits i o && ((named m x && named m y) && ((heldAt m p x && heldAt m p y) && true))) h
+      (λ k.
+      rw (
+        operand-rules p x k,
+        operand-rules p y k,
+        and-swap (named m x) (heldAt m p x) (named m y) (heldAt m p y),
+        and-true (heldAt m p x && heldAt m p y),
+      ))
+  station-rules next i (done p v) h = sym (and-true (ltb p next))
 
   abbrev storeRules : (next results : ℕ) → StoreBuffer A → List Bool
   storeRules next results s = placeBelow next (storePlace s) ∷ cellIn results (storeCell s) ∷ storeNamed m s ∷ storeHeld m s ∷ []
 
-  store-rules : (next results : ℕ) (s : StoreBuffer A) → storeGood (giverOf m) next results s ≡ allOf (storeRules next results s)
-  store-rules next results freeStore = refl
-  store-rules next results (live p c x) = rw (operand-rules p x, and-true (heldAt m p x))
+  store-rules : (next results : ℕ) (s : StoreBuffer A) → next ≤ never → storeGood (giverPlace m) next results s ≡ allOf (storeRules next results s)
+  store-rules next results freeStore h = refl
+  store-rules next results (live p c x) h =
+      slot-rules next p (isCell results c && operandGood (giverPlace m) p x) (isCell results c && (named m x && (heldAt m p x && true))) h
+      (λ k. rw (operand-rules p x k, and-true (heldAt m p x)))
 
--- THE MACHINE
-module _ (K : Kind) (list operands results : ℕ) (m : Machine (K .Num)) where
+-- THE MACHINE, of which the list is no longer than never
+module _ (K : Kind) (list operands results : ℕ) (m : Machine (K .Num)) (short : list ≤ never) where
   abbrev n : ℕ
   n = m .next
 
@@ -180,28 +194,37 @@ module _ (K : Kind) (list operands results : ℕ) (m : Machine (K .Num)) where
   buffers-row : buffersGood n operands (m .buffers) ≡ allOf (map (allBelow bufferCount) bufferTests)
   buffers-row = in-rows bufferCount (λ i. bufferGood n operands (bufferAt m i)) bufferTests (λ i. buffer-rules m n operands (bufferAt m i))
 
-  stations-row : stationsGood (giverOf m) n (m .stations) ≡ allOf (map (allBelow stationCount) stationTests)
-  stations-row = in-rows stationCount (λ i. stationGood (giverOf m) n i (stationAt m i)) stationTests (λ i. station-rules m n i (stationAt m i))
+  module _ (h : leb n list ≡ true) where
+    low : n ≤ never
+    low = omega (arith, leb-true n list h)
 
-  registers-row : registersGood (giverOf m) (K .nought) (m .registers) ≡ allBelow registerCount (λ i. named m (registerAt K m i))
-  registers-row =
-      below-same registerCount (λ i. registerGood (giverOf m) (registerAt K m i)) (λ i. named m (registerAt K m i)) (λ i. register-rules m (registerAt K m i))
+    stations-row : stationsGood (giverPlace m) n (m .stations) ≡ allOf (map (allBelow stationCount) stationTests)
+    stations-row =
+        in-rows stationCount (λ i. stationGood (giverPlace m) n i (stationAt m i)) stationTests (λ i. station-rules m n i (stationAt m i) low)
 
-  stores-row : storesGood (giverOf m) n results (m .stores) ≡ allOf (map (allBelow storeCount) storeTests)
-  stores-row = in-rows storeCount (λ i. storeGood (giverOf m) n results (storeAt m i)) storeTests (λ i. store-rules m n results (storeAt m i))
+    stores-row : storesGood (giverPlace m) n results (m .stores) ≡ allOf (map (allBelow storeCount) storeTests)
+    stores-row =
+        in-rows storeCount (λ i. storeGood (giverPlace m) n results (storeAt m i)) storeTests (λ i. store-rules m n results (storeAt m i) low)
+
+    registers-row : allBelow bufferCount (λ i. placeBelow n (bufferPlace (bufferAt m i))) ≡ true
+        → allBelow stationCount (λ i. placeBelow n (stationPlace (stationAt m i))) ≡ true
+        → registersGood (giverPlace m) (K .nought) (m .registers) ≡ allBelow registerCount (λ i. named m (registerAt K m i))
+    registers-row b s =
+        below-same registerCount (λ i. registerGood (giverPlace m) (registerAt K m i)) (λ i. named m (registerAt K m i))
+        (λ i. register-rules m (registerAt K m i) (named-place (m .buffers) (m .stations) n low b s))
 
   of-slots : goodBySlots K list operands results m ≡ true → Rules
   of-slots e =
       let t : (k : ℕ) → getD (rowTests K list operands results m) k true ≡ true = allOf-at (rowTests K list operands results m) e in
       let buffer = allOf-at (map (allBelow bufferCount) bufferTests) (sym buffers-row ∙ t 1) in
-      let station = allOf-at (map (allBelow stationCount) stationTests) (sym stations-row ∙ t 2) in
-      let store = allOf-at (map (allBelow storeCount) storeTests) (sym stores-row ∙ t 4) in
+      let station = allOf-at (map (allBelow stationCount) stationTests) (sym (stations-row (t 0)) ∙ t 2) in
+      let store = allOf-at (map (allBelow storeCount) storeTests) (sym (stores-row (t 0)) ∙ t 4) in
       record {
         next = t 0;
         bufferPlaces = buffer 0;
         stationPlaces = station 0;
         storePlaces = store 0;
-        registersNamed = sym registers-row ∙ t 3;
+        registersNamed = sym (registers-row (t 0) (buffer 0) (station 0)) ∙ t 3;
         stationsNamed = station 2;
         storesNamed = store 2;
         stationsHeld = station 3;
@@ -216,9 +239,9 @@ module _ (K : Kind) (list operands results : ℕ) (m : Machine (K .Num)) where
   to-slots r =
       and-i (r .next)
       (and-i (buffers-row ∙ and-i (r .bufferPlaces) (and-i (r .bufferCells) refl))
-      (and-i (stations-row ∙ and-i (r .stationPlaces) (and-i (r .kinds) (and-i (r .stationsNamed) (and-i (r .stationsHeld) refl))))
-      (and-i (registers-row ∙ r .registersNamed)
-      (and-i (stores-row ∙ and-i (r .storePlaces) (and-i (r .storeCells) (and-i (r .storesNamed) (and-i (r .storesHeld) refl))))
+      (and-i (stations-row (r .next) ∙ and-i (r .stationPlaces) (and-i (r .kinds) (and-i (r .stationsNamed) (and-i (r .stationsHeld) refl))))
+      (and-i (registers-row (r .next) (r .bufferPlaces) (r .stationPlaces) ∙ r .registersNamed)
+      (and-i (stores-row (r .next) ∙ and-i (r .storePlaces) (and-i (r .storeCells) (and-i (r .storesNamed) (and-i (r .storesHeld) refl))))
       (and-i (r .apart) refl)))))
 
   pub by-slots : goodOrder K list operands results m ≡ goodBySlots K list operands results m

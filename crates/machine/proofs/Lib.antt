@@ -12,6 +12,7 @@ pub mod Four
 pub mod Given
 pub mod Issued
 pub mod Loops
+pub mod Placed
 pub mod Runs
 pub mod Search
 pub mod Seen

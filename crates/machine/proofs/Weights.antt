@@ -1,6 +1,6 @@
 -- What each slot and each word weighs in the count of steps left: at most 5, and nothing exactly when it is free.
 use mathlib.Core.Path.{_≡_, refl, sym, _∙_}
-use mathlib.Core.Bool.{Bool, true, false, _&&_}
+use mathlib.Core.Bool.{Bool, true}
 use mathlib.Core.List.{List, [], _∷_}
 use Prim.Native.Nat.{ℕ, zero, suc, _+_, _*_, _≤_, _<_}
 use native.Mathlib.Nat.{not-suc-le-zero, le-of-suc-le-suc}
@@ -15,7 +15,7 @@ use Rattle.order.specs.Machine.{Buffer, freeBuffer, waiting, full, Station, fre
 use Rattle.order.specs.GoodOrder.{nothingLive}
 use Rattle.order.specs.Count.{instructionLeft, wordsLeft, countLeft, bufferLeft, stationLeft, storeLeft}
 use Rattle.order.proofs.Rows.{and-i, allOf-at, allBelow-at, allBelow-of}
-use Rattle.machine.specs.Answers.{SlotsLeft}
+use Rattle.machine.specs.Working.{SlotsLeft}
 use Rattle.machine.proofs.BySlots.{both-ways}
 use Rattle.machine.proofs.Sums.{sum-bound}
 

@@ -1,7 +1,8 @@
-pub mod View
-pub mod SlotRules
 pub mod Answers
+pub mod Chain
 pub mod Inside
 pub mod Lowest
+pub mod SlotRules
 pub mod Step
-pub mod Chain
+pub mod View
+pub mod Working

@@ -1,29 +1,35 @@
 -- Good order slot by slot: one test a slot, with all its rules at once, then a row, then the machine. That it is the good order of crate
 -- order, which goes clause by clause, is shown in proofs/BySlots.antt.
-use mathlib.Core.Bool.{Bool, true, false, _&&_, _||_}
-use mathlib.Core.List.{List, [], _∷_}
+use mathlib.Core.Bool.{Bool, true, cond, not, _&&_, _||_}
+use mathlib.Core.List.{List, [], _∷_, map}
 use Prim.Native.Nat.{ℕ}
 use lib.Dec.{ltb, leb, eqb}
 use lib.ListN.{getD}
 use Rattle.words.specs.Instructions.{isCell}
 use Rattle.order.specs.Rows.{allOf, allBelow}
-use Rattle.order.specs.Tags.{registerCount, bufferCount, stationCount, storeCount, suits}
+use Rattle.order.specs.Tags.{registerCount, bufferCount, stationCount, storeCount, firstStation, lastStation, suits}
 use Rattle.order.specs.Machine.{Kind, Operand, num, tag, Buffer, freeBuffer, waiting, full, Station, freeStation, holding, done, StoreBuffer, freeStore, live, Machine, storeCell}
 use Rattle.order.specs.GoodOrder as order
-use Rattle.order.specs.GoodOrder.{nobody, fromBuffer, fromStation, isSome, giverOf, apart}
-use Rattle.machine.specs.declared.giver.Giver.{Giver}
-use Rattle.machine.specs.declared.giver.Giver.the-variants.{Nobody, FromBuffer, FromStation}
+use Rattle.order.specs.GoodOrder.{nobody, fromBuffer, fromStation, giver, giverOf, apart}
 
-abbrev pub viewGiver : Giver → order.Giver
-viewGiver Nobody = nobody
-viewGiver (FromBuffer p) = fromBuffer p
-viewGiver (FromStation p) = fromStation p
+-- nobody's place, the largest number of a usize: no machine in good order holds one as high
+abbrev pub never : ℕ
+never = 0xFFFF_FFFF_FFFF_FFFF
 
--- somebody gives, and "a tag held at place q names a buffer of place at most q or a station of place below q"
-abbrev pub givesAt : (q : ℕ) → order.Giver → Bool
-givesAt q nobody = false
-givesAt q (fromBuffer p) = leb p q
-givesAt q (fromStation p) = ltb p q
+abbrev pub placeOf : order.Giver → ℕ
+placeOf nobody = never
+placeOf (fromBuffer p) = p
+placeOf (fromStation p) = p
+
+-- the place of each tag's giver
+abbrev pub tags : List ℕ
+tags = 0 ∷ 1 ∷ 2 ∷ 3 ∷ 4 ∷ 5 ∷ 6 ∷ 7 ∷ 8 ∷ 9 ∷ 10 ∷ 11 ∷ 12 ∷ []
+
+abbrev pub placeTable : {A : Type 0} → List (Buffer A) → List (Station A) → List ℕ
+placeTable bs ss = map (λ t. placeOf (giver bs ss t)) tags
+
+abbrev pub placeIn : (table : List ℕ) → (t : ℕ) → ℕ
+placeIn table t = cond (ltb lastStation t) never (getD table t 0)
 
 module _ {A : Type 0} where
   -- "free, waiting (place, cell) or full (place, number)"
@@ -42,17 +48,17 @@ module _ {A : Type 0} where
   abbrev pub storesApart : List (StoreBuffer A) → Bool
   storesApart ts = allBelow storeCount (λ i. allBelow storeCount (λ j. eqb i j || cellsApart (getD ts i freeStore) (getD ts j freeStore)))
 
-  -- with g, who gives a tag
-  module _ (g : ℕ → order.Giver) where
+  -- with f, the place of a tag's giver
+  module _ (f : ℕ → ℕ) where
     -- "For a register's tag only the naming rule applies."
     abbrev pub registerGood : Operand A → Bool
     registerGood (num x) = true
-    registerGood (tag t) = isSome (g t)
+    registerGood (tag t) = not (eqb (f t) never)
 
-    -- an operand held at place q
+    -- an operand held at place q: "a tag held at place q names a buffer of place at most q or a station of place below q"
     abbrev pub operandGood : (q : ℕ) → Operand A → Bool
     operandGood q (num x) = true
-    operandGood q (tag t) = givesAt q (g t)
+    operandGood q (tag t) = cond (ltb t firstStation) (leb (f t) q) (ltb (f t) q)
 
     -- station i: "free, holding (place, operation, sink operand and source operand) or done (place, result)"
     abbrev pub stationGood : (next i : ℕ) → Station A → Bool
@@ -74,14 +80,17 @@ module _ {A : Type 0} where
     abbrev pub storesGood : (next results : ℕ) → List (StoreBuffer A) → Bool
     storesGood next results ts = allBelow storeCount (λ i. storeGood next results (getD ts i freeStore))
 
+abbrev pub giverPlace : {A : Type 0} → Machine A → (t : ℕ) → ℕ
+giverPlace m t = placeOf (giverOf m t)
+
 -- the machine, a row at a time
 abbrev pub rowTests : (K : Kind) (list operands results : ℕ) → Machine (K .Num) → List Bool
 rowTests K list operands results m =
     leb (m .next) list
     ∷ buffersGood (m .next) operands (m .buffers)
-    ∷ stationsGood (giverOf m) (m .next) (m .stations)
-    ∷ registersGood (giverOf m) (K .nought) (m .registers)
-    ∷ storesGood (giverOf m) (m .next) results (m .stores)
+    ∷ stationsGood (giverPlace m) (m .next) (m .stations)
+    ∷ registersGood (giverPlace m) (K .nought) (m .registers)
+    ∷ storesGood (giverPlace m) (m .next) results (m .stores)
     ∷ storesApart (m .stores)
     ∷ []
 

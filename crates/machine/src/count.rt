@@ -19,7 +19,8 @@ ghost use Rattle.order.specs.Count.{instructionLeft, wordsLeft, bufferLeft, sta
 ghost use Rattle.order.specs.Entries.{stepsLeft};
 ghost use Rattle.order.specs.Binary64.{binary64};
 ghost use Rattle.machine.specs.View.{viewBuffer, viewStation, viewStore, view, lent};
-ghost use Rattle.machine.specs.Answers.{viewLeft, SlotsLeft};
+ghost use Rattle.machine.specs.Answers.{viewLeft};
+ghost use Rattle.machine.specs.Working.{SlotsLeft};
 
 // The answer of a count: a refusal number of 01, 0 for accepted, and the steps left, 0 when refused.
 pub struct Left {

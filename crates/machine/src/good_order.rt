@@ -1,4 +1,5 @@
 // Good order of a whole machine (01, "Good order").
+use crate::givers;
 use crate::parts::Machine;
 use crate::row_rules;
 ghost use mathlib.Core.Path.{_≡_};
@@ -22,13 +23,14 @@ pub(crate) fn in_good_order(m: Machine, list: usize, operands: usize, results: u
     if !row_rules::buffers_good(buffers, next, operands) {
         return false;
     }
-    if !row_rules::stations_good(stations, next, buffers) {
+    let places = givers::giver_places(buffers, stations);
+    if !row_rules::stations_good(stations, next, &places) {
         return false;
     }
-    if !row_rules::registers_good(registers, buffers, stations) {
+    if !row_rules::registers_good(registers, &places) {
         return false;
     }
-    if !row_rules::stores_good(stores, next, results, buffers, stations) {
+    if !row_rules::stores_good(stores, next, results, &places) {
         return false;
     }
     row_rules::stores_apart(stores)

@@ -3,7 +3,7 @@ mod code;
 pub mod count;
 mod free;
 mod give;
-mod giver;
+mod givers;
 pub mod good_order;
 mod issue;
 pub mod lowest;

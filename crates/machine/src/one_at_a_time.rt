@@ -4,12 +4,14 @@ use words::refusal;
 ghost use mathlib.Core.Path.{_≡_};
 ghost use lib.ListN.{length};
 ghost use Rattle.words.specs.Check.{wordRefusal};
+ghost use Rattle.order.specs.Tags.{registerCount};
 ghost use Rattle.order.specs.Instruction.{indexOf, decode};
 ghost use Rattle.order.specs.OneAtATime.{execute};
 ghost use Rattle.order.specs.Entries.{oneAtATime};
 ghost use Rattle.order.specs.Binary64.{binary64};
 ghost use Rattle.machine.specs.View.{lent};
-ghost use Rattle.machine.specs.Answers.{viewRan, operandsAlone};
+ghost use Rattle.machine.specs.Answers.{at, viewRan};
+ghost use Rattle.machine.specs.Working.{operandsAlone};
 
 // The answer of a run: the registers, the start numbers when refused, and a refusal number of 01, 0 for accepted.
 pub struct Ran {
@@ -25,43 +27,38 @@ fn index_of(register: u32) -> usize
 }
 
 // One instruction: "R1 takes the operand"; "R1 plus, minus, times, over operand to R1"; "R1 to the result cell". The word has been checked.
-fn execute(word: u32, registers: [f64; 4], operands: &[f64], results: &mut [f64]) -> [f64; 4]
+fn execute(word: u32, registers: &mut [f64; 4], operands: &[f64], results: &mut [f64])
     requires { ⌜ wordRefusal (length (now operands)) (length (now results)) word ≡ 0 ⌝ }
-    ensures { λ r. ⌜ record { registers = r; cells = now (results .exit) } ≡ execute binary64 (operandsAlone (now (operands .entry))) (decode word) (record { registers = registers; cells = now (results .entry) }) ⌝ }
+    requires { ⌜ length (now registers) ≡ registerCount ⌝ }
+    ensures { λ r. ⌜ at (now (registers .exit)) (now (results .exit)) ≡ execute binary64 (operandsAlone (now (operands .entry))) (decode word) (at (now (registers .entry)) (now (results .entry))) ⌝ }
 {
     let form = words::form_of(words::operation_of(word));
     let r = index_of(words::r1_of(word));
     let operand = words::operand_of(word);
     let cell = operand as usize;
-    let mut out = registers;
     match form {
-        Form::Unknown => out,
+        Form::Unknown => {}
         Form::LD => {
-            out[r] = operands[cell];
-            out
+            registers[r] = operands[cell];
         }
         Form::LDR => {
-            out[r] = out[index_of(operand)];
-            out
+            registers[r] = registers[index_of(operand)];
         }
         Form::CellArithmetic(operation) => {
-            out[r] = numbers::computed(operation, out[r], operands[cell]);
-            out
+            registers[r] = numbers::computed(operation, registers[r], operands[cell]);
         }
         Form::RegisterArithmetic(operation) => {
-            out[r] = numbers::computed(operation, out[r], out[index_of(operand)]);
-            out
+            registers[r] = numbers::computed(operation, registers[r], registers[index_of(operand)]);
         }
         Form::STD => {
-            results[cell] = out[r];
-            out
+            results[cell] = registers[r];
         }
     }
 }
 
 // 01: refused, the start numbers are given back and nothing is written.
 pub fn one_at_a_time(words: &[u32], operands: &[f64], results: &mut [f64], starts: [f64; 4]) -> Ran
-    ensures { λ r. ⌜ viewRan r (now (results .exit)) ≡ oneAtATime binary64 (lent (now (words .entry)) (now (operands .entry)) (now (results .entry))) (record { registers = starts; cells = now (results .entry) }) ⌝ }
+    ensures { λ r. ⌜ viewRan r (now (results .exit)) ≡ oneAtATime binary64 (lent (now (words .entry)) (now (operands .entry)) (now (results .entry))) (at starts (now (results .entry))) ⌝ }
 {
     let refused = words::check_list_against(words, operands.len(), results.len()).refusal;
     if refused != 0 {
@@ -72,8 +69,7 @@ pub fn one_at_a_time(words: &[u32], operands: &[f64], results: &mut [f64], start
     }
     let mut registers = starts;
     for place in 0..words.len() {
-        let after = execute(words[place], registers, operands, results);
-        registers = after;
+        execute(words[place], &mut registers, operands, results);
     }
     Ran {
         registers,

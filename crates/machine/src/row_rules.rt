@@ -6,21 +6,15 @@ use crate::parts::StoreBuffer;
 use crate::slot_rules;
 ghost use mathlib.Core.Path.{_≡_};
 ghost use mathlib.Core.List.{map};
-ghost use Rattle.order.specs.Machine.{Kind};
-ghost use Rattle.order.specs.GoodOrder.{giver};
 ghost use Rattle.order.specs.Binary64.{binary64};
 ghost use Rattle.machine.specs.View.{viewRegister, viewBuffer, viewStation, viewStore};
-ghost use Rattle.machine.specs.SlotRules.{registersGood, buffersGood, stationsGood, storesGood, storesApart};
+ghost use Rattle.machine.specs.SlotRules.{placeIn, registersGood, buffersGood, stationsGood, storesGood, storesApart};
 
-pub(crate) fn registers_good(
-    registers: [Register; 4],
-    buffers: [Buffer; 6],
-    stations: [Station; 5],
-) -> bool
-    ensures { λ r. ⌜ r ≡ registersGood (giver (map viewBuffer buffers) (map viewStation stations)) (binary64 .nought) (map viewRegister registers) ⌝ }
+pub(crate) fn registers_good(registers: [Register; 4], places: &[usize; 13]) -> bool
+    ensures { λ r. ⌜ r ≡ registersGood (placeIn (now (places .entry))) (binary64 .nought) (map viewRegister registers) ⌝ }
 {
     for i in 0..registers.len() {
-        if !slot_rules::register_good(registers[i], buffers, stations) {
+        if !slot_rules::register_good(registers[i], places) {
             return false;
         }
     }
@@ -38,11 +32,11 @@ pub(crate) fn buffers_good(buffers: [Buffer; 6], next: usize, operands: usize) -
     true
 }
 
-pub(crate) fn stations_good(stations: [Station; 5], next: usize, buffers: [Buffer; 6]) -> bool
-    ensures { λ r. ⌜ r ≡ stationsGood (giver (map viewBuffer buffers) (map viewStation stations)) next (map viewStation stations) ⌝ }
+pub(crate) fn stations_good(stations: [Station; 5], next: usize, places: &[usize; 13]) -> bool
+    ensures { λ r. ⌜ r ≡ stationsGood (placeIn (now (places .entry))) next (map viewStation stations) ⌝ }
 {
     for i in 0..stations.len() {
-        if !slot_rules::station_good(stations[i], i, next, buffers, stations) {
+        if !slot_rules::station_good(stations[i], i, next, places) {
             return false;
         }
     }
@@ -53,13 +47,12 @@ pub(crate) fn stores_good(
     stores: [StoreBuffer; 3],
     next: usize,
     results: usize,
-    buffers: [Buffer; 6],
-    stations: [Station; 5],
+    places: &[usize; 13],
 ) -> bool
-    ensures { λ r. ⌜ r ≡ storesGood (giver (map viewBuffer buffers) (map viewStation stations)) next results (map viewStore stores) ⌝ }
+    ensures { λ r. ⌜ r ≡ storesGood (placeIn (now (places .entry))) next results (map viewStore stores) ⌝ }
 {
     for i in 0..stores.len() {
-        if !slot_rules::store_good(stores[i], next, results, buffers, stations) {
+        if !slot_rules::store_good(stores[i], next, results, places) {
             return false;
         }
     }

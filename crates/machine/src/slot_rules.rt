@@ -1,6 +1,5 @@
 // Good order, one test a slot: all of 01's rules for it at once.
-use crate::giver;
-use crate::giver::Giver;
+use crate::givers;
 use crate::parts::Buffer;
 use crate::parts::BufferState;
 use crate::parts::Operand;
@@ -12,47 +11,35 @@ use crate::parts::StoreState;
 use crate::parts::Tag;
 use numbers::Operation;
 ghost use mathlib.Core.Path.{_≡_};
-ghost use mathlib.Core.List.{map};
 ghost use Rattle.words.specs.Instructions.{isCell};
 ghost use Rattle.order.specs.Tags.{suits};
-ghost use Rattle.order.specs.GoodOrder.{giver};
 ghost use Rattle.machine.specs.View.{viewOperand, viewRegister, viewBuffer, viewStation, viewStore};
-ghost use Rattle.machine.specs.SlotRules.{registerGood, operandGood, bufferGood, stationGood, storeGood, cellsApart};
+ghost use Rattle.machine.specs.SlotRules.{placeIn, registerGood, operandGood, bufferGood, stationGood, storeGood, cellsApart};
 
-pub(crate) fn register_good(
-    register: Register,
-    buffers: [Buffer; 6],
-    stations: [Station; 5],
-) -> bool
-    ensures { λ r. ⌜ r ≡ registerGood (giver (map viewBuffer buffers) (map viewStation stations)) (viewRegister register) ⌝ }
+// A register's tag has a giver, of whatever place.
+pub(crate) fn register_good(register: Register, places: &[usize; 13]) -> bool
+    ensures { λ r. ⌜ r ≡ registerGood (placeIn (now (places .entry))) (viewRegister register) ⌝ }
 {
     let operand = register.operand;
     match operand {
         Operand::Number(_) => true,
-        Operand::Waits(tag) => match giver::giver_of(tag, buffers, stations) {
-            Giver::Nobody => false,
-            Giver::FromBuffer(_) => true,
-            Giver::FromStation(_) => true,
-        },
+        Operand::Waits(tag) => givers::giver_place(tag, places) != givers::NEVER,
     }
 }
 
-// An operand that is held at a place.
-fn operand_good(
-    operand: Operand,
-    place: usize,
-    buffers: [Buffer; 6],
-    stations: [Station; 5],
-) -> bool
-    ensures { λ r. ⌜ r ≡ operandGood (giver (map viewBuffer buffers) (map viewStation stations)) place (viewOperand operand) ⌝ }
+// An operand that is held at a place: of a buffer of place at most that, or of a station of place below it.
+fn operand_good(operand: Operand, place: usize, places: &[usize; 13]) -> bool
+    ensures { λ r. ⌜ r ≡ operandGood (placeIn (now (places .entry))) place (viewOperand operand) ⌝ }
 {
     match operand {
         Operand::Number(_) => true,
-        Operand::Waits(tag) => match giver::giver_of(tag, buffers, stations) {
-            Giver::Nobody => false,
-            Giver::FromBuffer(given) => given <= place,
-            Giver::FromStation(given) => given < place,
-        },
+        Operand::Waits(tag) => {
+            let given = givers::giver_place(tag, places);
+            if tag.0 < Tag::FIRST_STATION {
+                return given <= place;
+            }
+            given < place
+        }
     }
 }
 
@@ -98,10 +85,9 @@ pub(crate) fn station_good(
     station: Station,
     index: usize,
     next: usize,
-    buffers: [Buffer; 6],
-    stations: [Station; 5],
+    places: &[usize; 13],
 ) -> bool
-    ensures { λ r. ⌜ r ≡ stationGood (giver (map viewBuffer buffers) (map viewStation stations)) next index (viewStation station) ⌝ }
+    ensures { λ r. ⌜ r ≡ stationGood (placeIn (now (places .entry))) next index (viewStation station) ⌝ }
 {
     let state = station.state;
     match state {
@@ -113,8 +99,8 @@ pub(crate) fn station_good(
             let source = work.source;
             if place < next {
                 if kind_suits(index, operation) {
-                    if operand_good(sink, place, buffers, stations) {
-                        return operand_good(source, place, buffers, stations);
+                    if operand_good(sink, place, places) {
+                        return operand_good(source, place, places);
                     }
                 }
             }
@@ -128,10 +114,9 @@ pub(crate) fn store_good(
     store: StoreBuffer,
     next: usize,
     results: usize,
-    buffers: [Buffer; 6],
-    stations: [Station; 5],
+    places: &[usize; 13],
 ) -> bool
-    ensures { λ r. ⌜ r ≡ storeGood (giver (map viewBuffer buffers) (map viewStation stations)) next results (viewStore store) ⌝ }
+    ensures { λ r. ⌜ r ≡ storeGood (placeIn (now (places .entry))) next results (viewStore store) ⌝ }
 {
     let state = store.state;
     match state {
@@ -141,7 +126,7 @@ pub(crate) fn store_good(
             let operand = pending.operand;
             if place < next {
                 if cell_good(results, pending.cell) {
-                    return operand_good(operand, place, buffers, stations);
+                    return operand_good(operand, place, places);
                 }
             }
             false

@@ -1,11 +1,10 @@
-use mathlib.Core.Path.{_≡_, _∙_}
 use Prim.Native.Nat.{_+_}
 use native.Mathlib.Omega.{arith}
 use lib.ListN.{length-map}
 use borrow.Author.Needs.{needs}
 use Rattle.order.specs.Machine.{Shape}
 use Rattle.machine.specs.View.{view}
-use Rattle.machine.specs.Answers.{SlotsLeft}
+use Rattle.machine.specs.Working.{SlotsLeft}
 use Rattle.machine.proofs.Weights.{rows-weigh, slots-left}
 use Rattle.machine.proofs.Whole.{whole}
 use Rattle.machine.proofs.count.slots_left.Statement.{statement}

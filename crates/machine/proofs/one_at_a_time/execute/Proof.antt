@@ -6,7 +6,6 @@ use borrow.Author.Needs.{needs}
 use Rattle.words.specs.declared.Form.{Form}
 use Rattle.words.specs.declared.Form.the-variants.{Unknown, LD, LDR, STD}
 use Rattle.order.specs.Instruction.{indexOf}
-use Rattle.order.specs.Machine.{Kind}
 use Rattle.order.specs.Binary64.{binary64}
 use Rattle.order.proofs.Words.{cell-in-area}
 use denote.Ref.{now}
@@ -16,11 +15,12 @@ use Rattle.machine.proofs.one_at_a_time.execute.Tie as tie
 
 -- the word, decoded, in the arm of a form
 read : (c : tie.After-operand-of) (form : Form) → c .before .before .before .form-of .result ≡ form
-    → let s = c .before .before .before .before .before .before .before in
-    Decoded (length (now (s .args .operands))) (length (now (s .args .results))) (s .args .word) form (c .before .before .r1-of .result) (c .operand-of .result)
+    → let a = c .before .before .before .before .before .before .before .args in
+    Decoded (length (now (a .operands))) (length (now (a .results))) (a .word) form (c .before .before .r1-of .result) (c .operand-of .result)
 read c form e =
     let f = c .before .before .before in
-    decoded _ _ _ form (f .before .before .before .before .pre) (f .before .operation-of .ensures) (f .form-of .ensures) e (c .before .before .r1-of .ensures) (c .operand-of .ensures)
+    decoded _ _ _ form (f .before .before .before .before .pre .0) (f .before .operation-of .ensures) (f .form-of .ensures) e
+    (c .before .before .r1-of .ensures) (c .operand-of .ensures)
 
 operation-of-requires : tie.Need-operation-of-requires
 operation-of-requires c κs = search needs
@@ -46,20 +46,22 @@ enum-told c = search needs
 enum-told-2 : tie.Need-enum-told-2
 enum-told-2 c = search needs
 
-mul-out : tie.Need-mul-out
-mul-out c = search needs
+mul-registers : tie.Need-mul-registers
+mul-registers c = search needs
 
-shared-slice-read-out : tie.Need-shared-slice-read-out
-shared-slice-read-out c =
-    let d = read (c .before .before .before) LD (c .before .enum-told2 .given .1) in
+shared-slice-read-registers : tie.Need-shared-slice-read-registers
+shared-slice-read-registers c =
+    let arm = c .before in
+    let d = read (arm .before .before) LD (arm .enum-told2 .given .1) in
     cell-in-area _ _ (d .formed .1)
 
-mul-out-2 : tie.Need-mul-out-2
-mul-out-2 c = search needs
+mul-registers-2 : tie.Need-mul-registers-2
+mul-registers-2 c = search needs
 
-array-write-out : tie.Need-array-write-out
-array-write-out c =
-    let d = read (c .before .before .before) LD (c .before .enum-told2 .given .1) in
+element-write-registers : tie.Need-element-write-registers
+element-write-registers c =
+    let arm = c .before in
+    let d = read (arm .before .before) LD (arm .enum-told2 .given .1) in
     omega (arith, d .formed .0)
 
 enum-told-3 : tie.Need-enum-told-3
@@ -68,20 +70,22 @@ enum-told-3 c = search needs
 index-of-requires-2 : tie.Need-index-of-requires-2
 index-of-requires-2 c κs = search needs
 
-mul-out-3 : tie.Need-mul-out-3
-mul-out-3 c = search needs
+mul-registers-3 : tie.Need-mul-registers-3
+mul-registers-3 c = search needs
 
-array-read-out : tie.Need-array-read-out
-array-read-out c =
-    let d = read (c .before .before .before) LDR (c .before .enum-told3 .given .1) in
+element-copy-out-registers : tie.Need-element-copy-out-registers
+element-copy-out-registers c =
+    let arm = c .before in
+    let d = read (arm .before .before) LDR (arm .enum-told3 .given .1) in
     omega (arith, d .formed .1)
 
-mul-out-4 : tie.Need-mul-out-4
-mul-out-4 c = search needs
+mul-registers-4 : tie.Need-mul-registers-4
+mul-registers-4 c = search needs
 
-array-write-out-2 : tie.Need-array-write-out-2
-array-write-out-2 c =
-    let d = read (c .before .before .before) LDR (c .before .enum-told3 .given .1) in
+element-write-registers-2 : tie.Need-element-write-registers-2
+element-write-registers-2 c =
+    let arm = c .before .before in
+    let d = read (arm .before .before) LDR (arm .enum-told3 .given .1) in
     omega (arith, d .formed .0)
 
 enum-known-form : tie.Need-enum-known-form
@@ -90,8 +94,8 @@ enum-known-form c = search needs
 mul-computed : tie.Need-mul-computed
 mul-computed c = search needs
 
-array-read-computed : tie.Need-array-read-computed
-array-read-computed c =
+element-copy-out-computed : tie.Need-element-copy-out-computed
+element-copy-out-computed c =
     let d = read (c .before .before .before) _ (c .before .form .given .1) in
     omega (arith, d .formed .0)
 
@@ -100,18 +104,20 @@ mul-computed-2 c = search needs
 
 shared-slice-read-computed : tie.Need-shared-slice-read-computed
 shared-slice-read-computed c =
-    let d = read (c .before .before .before .before) _ (c .before .before .form .given .1) in
+    let arm = c .before .before in
+    let d = read (arm .before .before .before) _ (arm .before .form .given .1) in
     cell-in-area _ _ (d .formed .1)
 
 computed-requires : tie.Need-computed-requires
 computed-requires c κs = search needs
 
-mul-out-5 : tie.Need-mul-out-5
-mul-out-5 c = search needs
+mul-registers-5 : tie.Need-mul-registers-5
+mul-registers-5 c = search needs
 
-array-write-out-3 : tie.Need-array-write-out-3
-array-write-out-3 c =
-    let d = read (c .before .before .before .before .before) _ (c .before .before .before .form .given .1) in
+element-write-registers-3 : tie.Need-element-write-registers-3
+element-write-registers-3 c =
+    let arm = c .before .before .before in
+    let d = read (arm .before .before .before) _ (arm .before .form .given .1) in
     omega (arith, d .formed .0)
 
 enum-known-form-2 : tie.Need-enum-known-form-2
@@ -120,8 +126,8 @@ enum-known-form-2 c = search needs
 mul-computed-3 : tie.Need-mul-computed-3
 mul-computed-3 c = search needs
 
-array-read-computed-2 : tie.Need-array-read-computed-2
-array-read-computed-2 c =
+element-copy-out-computed-2 : tie.Need-element-copy-out-computed-2
+element-copy-out-computed-2 c =
     let d = read (c .before .before .before) _ (c .before .form2 .given .1) in
     omega (arith, d .formed .0)
 
@@ -131,20 +137,22 @@ index-of-requires-3 c κs = search needs
 mul-computed-4 : tie.Need-mul-computed-4
 mul-computed-4 c = search needs
 
-array-read-computed-3 : tie.Need-array-read-computed-3
-array-read-computed-3 c =
-    let d = read (c .before .before .before .before) _ (c .before .before .form2 .given .1) in
+element-copy-out-computed-3 : tie.Need-element-copy-out-computed-3
+element-copy-out-computed-3 c =
+    let arm = c .before .before in
+    let d = read (arm .before .before .before) _ (arm .before .form2 .given .1) in
     omega (arith, d .formed .1)
 
 computed-requires-2 : tie.Need-computed-requires-2
 computed-requires-2 c κs = search needs
 
-mul-out-6 : tie.Need-mul-out-6
-mul-out-6 c = search needs
+mul-registers-6 : tie.Need-mul-registers-6
+mul-registers-6 c = search needs
 
-array-write-out-4 : tie.Need-array-write-out-4
-array-write-out-4 c =
-    let d = read (c .before .before .before .before .before) _ (c .before .before .before .form2 .given .1) in
+element-write-registers-4 : tie.Need-element-write-registers-4
+element-write-registers-4 c =
+    let arm = c .before .before .before .before in
+    let d = read (arm .before .before .before) _ (arm .before .form2 .given .1) in
     omega (arith, d .formed .0)
 
 enum-told-4 : tie.Need-enum-told-4
@@ -153,8 +161,8 @@ enum-told-4 c = search needs
 mul-results : tie.Need-mul-results
 mul-results c = search needs
 
-array-read-results : tie.Need-array-read-results
-array-read-results c =
+element-copy-out-results : tie.Need-element-copy-out-results
+element-copy-out-results c =
     let d = read (c .before .before) STD (c .enum-told4 .given .1) in
     omega (arith, d .formed .0)
 
@@ -163,7 +171,8 @@ mul-results-2 c = search needs
 
 slice-write-results : tie.Need-slice-write-results
 slice-write-results c =
-    let d = read (c .before .before) STD (c .enum-told4 .given .1) in
+    let arm = c .before in
+    let d = read (arm .before .before) STD (arm .enum-told4 .given .1) in
     cell-in-area _ _ (d .formed .1)
 
 returns : tie.Need-returns
@@ -171,40 +180,82 @@ returns c = absurd (read (c .before .before) Unknown (c .enum-told .given .1) .f
 
 returns-2 : tie.Need-returns-2
 returns-2 c =
-    let d = read (c .before .before .before) LD (c .before .enum-told2 .given .1) in
-    let a = c .before .before .before .before .before .before .before .before .before .before .args in
-    rw (d .is, c .before .before .before .before .index-of .ensures, any-default (now (a .operands)) (c .before .before .before .operand-of .result) nan (binary64 .nought) (cell-in-area _ _ (d .formed .1)))
+    let arm = c .before in
+    let d = read (arm .before .before) LD (arm .enum-told2 .given .1) in
+    let o = arm .before .before in
+    let s = o .before .before .before .before .before .before .before in
+    let a = s .args in
+    let four = s .pre .1 in
+    rw (
+      d .is,
+      o .before .index-of .ensures,
+      any-default (now (a .operands)) (o .operand-of .result) nan (binary64 .nought) (cell-in-area _ _ (d .formed .1)),
+    )
 
 returns-3 : tie.Need-returns-3
 returns-3 c =
-    let d = read (c .before .before .before) LDR (c .before .enum-told3 .given .1) in
-    let a = c .before .before .before .before .before .before .before .before .before .before .args in
-    let four : length (a .registers) ≡ 4 = search needs in
-    rw (d .is, c .before .before .before .before .index-of .ensures, ← (c .index-of2 .ensures), any-default (a .registers) (c .index-of2 .result) nan (binary64 .nought) (omega (arith, d .formed .1)))
+    let arm = c .before .before in
+    let d = read (arm .before .before) LDR (arm .enum-told3 .given .1) in
+    let o = arm .before .before in
+    let s = o .before .before .before .before .before .before .before in
+    let a = s .args in
+    let four = s .pre .1 in
+    rw (
+      d .is,
+      o .before .index-of .ensures,
+      c .before .index-of2 .ensures,
+      any-default (now (a .registers)) (indexOf (o .operand-of .result)) nan (binary64 .nought) (omega (arith, d .formed .1)),
+    )
 
 returns-4 : tie.Need-returns-4
 returns-4 c =
-    let d = read (c .before .before .before .before .before) _ (c .before .before .before .form .given .1) in
-    let a = c .before .before .before .before .before .before .before .before .before .before .before .before .args in
-    let four : length (a .registers) ≡ 4 = search needs in
-    rw (d .is, c .computed .ensures, c .before .before .before .before .before .before .index-of .ensures, any-default (now (a .operands)) (c .before .before .before .before .before .operand-of .result) nan (binary64 .nought) (cell-in-area _ _ (d .formed .1)), any-default (a .registers) (indexOf (c .before .before .before .before .before .before .before .r1-of .result)) nan (binary64 .nought) (omega (arith, d .formed .0)))
+    let arm = c .before .before .before in
+    let d = read (arm .before .before .before) _ (arm .before .form .given .1) in
+    let o = arm .before .before .before in
+    let s = o .before .before .before .before .before .before .before in
+    let a = s .args in
+    let four = s .pre .1 in
+    rw (
+      d .is,
+      c .computed .ensures,
+      o .before .index-of .ensures,
+      any-default (now (a .registers)) (indexOf (o .before .before .r1-of .result)) nan (binary64 .nought) (omega (arith, d .formed .0)),
+      any-default (now (a .operands)) (o .operand-of .result) nan (binary64 .nought) (cell-in-area _ _ (d .formed .1)),
+    )
 
 returns-5 : tie.Need-returns-5
 returns-5 c =
-    let d = read (c .before .before .before .before .before) _ (c .before .before .before .form2 .given .1) in
-    let a = c .before .before .before .before .before .before .before .before .before .before .before .before .args in
-    let four : length (a .registers) ≡ 4 = search needs in
-    rw (d .is, c .computed2 .ensures, c .before .before .before .before .before .before .index-of .ensures, c .before .index-of3 .ensures, any-default (a .registers) (indexOf (c .before .before .before .before .before .before .before .r1-of .result)) nan (binary64 .nought) (omega (arith, d .formed .0)), any-default (a .registers) (indexOf (c .before .before .before .before .before .operand-of .result)) nan (binary64 .nought) (omega (arith, d .formed .1)))
+    let arm = c .before .before .before .before in
+    let d = read (arm .before .before .before) _ (arm .before .form2 .given .1) in
+    let o = arm .before .before .before in
+    let s = o .before .before .before .before .before .before .before in
+    let a = s .args in
+    let four = s .pre .1 in
+    rw (
+      d .is,
+      c .computed2 .ensures,
+      o .before .index-of .ensures,
+      c .before .before .index-of3 .ensures,
+      any-default (now (a .registers)) (indexOf (o .before .before .r1-of .result)) nan (binary64 .nought) (omega (arith, d .formed .0)),
+      any-default (now (a .registers)) (indexOf (o .operand-of .result)) nan (binary64 .nought) (omega (arith, d .formed .1)),
+    )
 
 same-length : tie.Need-same-length
 same-length c = search needs
 
 returns-6 : tie.Need-returns-6
 returns-6 c =
-    let d = read (c .before .before) STD (c .enum-told4 .given .1) in
-    let a = c .before .before .before .before .before .before .before .before .before .args in
-    let four : length (a .registers) ≡ 4 = search needs in
-    rw (d .is, c .before .before .before .index-of .ensures, any-default (a .registers) (indexOf (c .before .before .before .before .r1-of .result)) nan (binary64 .nought) (omega (arith, d .formed .0)))
+    let arm = c .before in
+    let d = read (arm .before .before) STD (arm .enum-told4 .given .1) in
+    let o = arm .before .before in
+    let s = o .before .before .before .before .before .before .before in
+    let a = s .args in
+    let four = s .pre .1 in
+    rw (
+      d .is,
+      o .before .index-of .ensures,
+      any-default (now (a .registers)) (indexOf (o .before .before .r1-of .result)) nan (binary64 .nought) (omega (arith, d .formed .0)),
+    )
 
 pub execute-spec : {M : Type 1} → statement M
 execute-spec =
@@ -218,36 +269,36 @@ execute-spec =
     cast-cell
     enum-told
     enum-told-2
-    mul-out
-    shared-slice-read-out
-    mul-out-2
-    array-write-out
+    mul-registers
+    shared-slice-read-registers
+    mul-registers-2
+    element-write-registers
     enum-told-3
     index-of-requires-2
-    mul-out-3
-    array-read-out
-    mul-out-4
-    array-write-out-2
+    mul-registers-3
+    element-copy-out-registers
+    mul-registers-4
+    element-write-registers-2
     enum-known-form
     mul-computed
-    array-read-computed
+    element-copy-out-computed
     mul-computed-2
     shared-slice-read-computed
     computed-requires
-    mul-out-5
-    array-write-out-3
+    mul-registers-5
+    element-write-registers-3
     enum-known-form-2
     mul-computed-3
-    array-read-computed-2
+    element-copy-out-computed-2
     index-of-requires-3
     mul-computed-4
-    array-read-computed-3
+    element-copy-out-computed-3
     computed-requires-2
-    mul-out-6
-    array-write-out-4
+    mul-registers-6
+    element-write-registers-4
     enum-told-4
     mul-results
-    array-read-results
+    element-copy-out-results
     mul-results-2
     slice-write-results
     returns

@@ -1,12 +1,14 @@
+use mathlib.Core.Path.{_≡_}
 use Prim.Native.Nat.{_-_}
 use native.Mathlib.Omega.{arith}
 use lib.ListN.{length}
-use denote.Ref.{now}
 use borrow.Author.Needs.{needs}
+use Rattle.order.specs.Tags.{registerCount}
 use Rattle.order.specs.Binary64.{binary64}
+use denote.Ref.{now}
 use Rattle.machine.specs.View.{lent}
 use Rattle.machine.proofs.Checked.{list-passes, run-refused, run-taken}
-use Rattle.machine.proofs.Runs.{Running, running-none, running-checked, running-more, running-all}
+use Rattle.machine.proofs.Runs.{Running, running-none, running-checked, running-four, running-more, running-all}
 use Rattle.machine.proofs.one_at_a_time.one_at_a_time.Statement.{statement}
 use Rattle.machine.proofs.one_at_a_time.one_at_a_time.Tie as tie
 
@@ -33,10 +35,11 @@ shared-slice-read-execute c = search needs
 
 execute-requires : tie.Need-execute-requires Inv-loop μ-loop
 execute-requires c κs =
-    let l = c .before .before .before in
+    let l = c .before .before .before .before in
     let a = l .before .before .before .before .before .before .args in
     let lists = lent (now (a .words)) (now (a .operands)) (now (a .results)) in
-    running-checked (l .loop .inv) (list-passes binary64 lists (l .before .before .check-list-against .ensures) (l .before .if1 .left)) (c .before .before .loop-test .taken)
+    let long : length (a .starts) ≡ registerCount = search needs in
+    (running-checked (l .loop .inv) (list-passes binary64 lists (l .before .before .check-list-against .ensures) (l .before .if1 .left)) (c .before .before .before .loop-test .taken), running-four (l .loop .inv) long)
 
 add-place : tie.Need-add-place Inv-loop μ-loop
 add-place c = omega arith
@@ -45,7 +48,10 @@ loop-less : tie.Need-loop-less Inv-loop μ-loop
 loop-less c = omega arith
 
 loop-again : tie.Need-loop-again Inv-loop μ-loop
-loop-again c = running-more (c .before .before .before .before .before .before .loop .inv) (c .before .before .before .before .before .loop-test .taken) (c .before .before .execute .kept .1 .1 .1 .0) (c .before .before .execute .ensures)
+loop-again c =
+    let e = c .before .before in
+    let test = e .before .before .before .before in
+    running-more (test .before .loop .inv) (test .loop-test .taken) (e .execute .kept .1 .1 .1 .0) (e .execute .ensures)
 
 same-length : tie.Need-same-length Inv-loop μ-loop
 same-length c = c .before .loop .inv .same
@@ -53,7 +59,8 @@ same-length c = c .before .loop .inv .same
 returns-2 : tie.Need-returns-2 Inv-loop μ-loop
 returns-2 c =
     let l = c .before in
-    rw (running-all (l .loop .inv) (c .loop-test .left)) (run-taken binary64 _ (l .before .before .check-list-against .ensures) (l .before .if1 .left) _)
+    rw (running-all (l .loop .inv) (c .loop-test .left))
+    (run-taken binary64 _ (l .before .before .check-list-against .ensures) (l .before .if1 .left) _)
 
 pub one-at-a-time-spec : {M : Type 1} → statement M
 one-at-a-time-spec =

@@ -1,9 +1,9 @@
-use Prim.Native.Nat.{_-_, _≤_}
+use Prim.Native.Nat.{_-_}
 use native.Mathlib.Omega.{arith}
 use borrow.Author.Needs.{needs}
 use Rattle.order.specs.Machine.{freeBuffer}
-use Rattle.machine.specs.declared.parts.BufferState.the-variants as buffer
 use Rattle.machine.proofs.Loops.{Passed, passed-none, passed-more, passed-stop, passed-all}
+use Rattle.machine.specs.declared.parts.BufferState.the-variants as buffer
 use Rattle.machine.specs.View.{viewBuffer}
 use Rattle.machine.specs.SlotRules.{bufferGood}
 use Rattle.machine.proofs.row_rules.buffers_good.Statement.{statement}
@@ -28,7 +28,9 @@ buffer-good-requires : tie.Need-buffer-good-requires Inv-loop μ-loop
 buffer-good-requires c κs = search needs
 
 returns : tie.Need-returns Inv-loop μ-loop
-returns c = passed-stop (record { state = buffer.Free }) (search needs) (c .before .before .before .before .loop .inv) (c .before .before .before .loop-test .taken) (c .before .buffer-good .ensures) (c .if1 .taken)
+returns c =
+    let test = c .before .before .before in
+    passed-stop (record { state = buffer.Free }) (search needs) (test .before .loop .inv) (test .loop-test .taken) (c .before .buffer-good .ensures) (c .if1 .taken)
 
 add-i : tie.Need-add-i Inv-loop μ-loop
 add-i c = omega arith
@@ -37,7 +39,9 @@ loop-less : tie.Need-loop-less Inv-loop μ-loop
 loop-less c = omega arith
 
 loop-again : tie.Need-loop-again Inv-loop μ-loop
-loop-again c = passed-more (record { state = buffer.Free }) (search needs) (c .before .before .before .before .loop .inv) (c .before .before .before .loop-test .taken) (c .before .buffer-good .ensures) (c .if1 .left)
+loop-again c =
+    let test = c .before .before .before in
+    passed-more (record { state = buffer.Free }) (search needs) (test .before .loop .inv) (test .loop-test .taken) (c .before .buffer-good .ensures) (c .if1 .left)
 
 returns-2 : tie.Need-returns-2 Inv-loop μ-loop
 returns-2 c = passed-all (c .before .loop .inv) (c .loop-test .left)

@@ -1,23 +1,21 @@
-use mathlib.Core.List.{map}
-use Prim.Native.Nat.{_-_, _≤_}
+use Prim.Native.Nat.{_-_}
 use native.Mathlib.Omega.{arith}
-use borrow.Author.Needs.{needs}
-use Rattle.order.specs.Machine.{Kind, num}
-use Rattle.order.specs.GoodOrder.{giver}
-use Rattle.order.specs.Binary64.{binary64}
 use lib.Ieee.{nan}
-use Rattle.machine.specs.declared.parts.Operand.the-variants.{Number}
+use borrow.Author.Needs.{needs}
+use Rattle.order.specs.Machine.{num}
+use Rattle.order.specs.Binary64.{binary64}
 use Rattle.machine.proofs.Loops.{Passed, passed-none, passed-more, passed-stop, passed-all}
-use Rattle.machine.specs.View.{viewRegister, viewBuffer, viewStation}
-use Rattle.machine.specs.SlotRules.{registerGood}
+use Rattle.machine.specs.declared.parts.Operand.the-variants.{Number}
+use Rattle.machine.specs.View.{viewRegister}
+use Rattle.machine.specs.SlotRules.{placeIn, registerGood}
 use Rattle.machine.proofs.row_rules.registers_good.Statement.{statement}
 use Rattle.machine.proofs.row_rules.registers_good.Tie as tie
 
 abbrev Inv-loop : tie.InvT-loop
-Inv-loop buffers stations registers i₀ i = Passed viewRegister (num (binary64 .nought)) 4 (λ k o. registerGood (giver (map viewBuffer buffers) (map viewStation stations)) o) registers i
+Inv-loop places registers i₀ i = Passed viewRegister (num (binary64 .nought)) 4 (λ k o. registerGood (placeIn places) o) registers i
 
 abbrev μ-loop : tie.MeasureT-loop
-μ-loop buffers stations registers i₀ i = 4 - i
+μ-loop places registers i₀ i = 4 - i
 
 loop-holds : tie.Need-loop-holds Inv-loop μ-loop
 loop-holds c = passed-none
@@ -32,7 +30,9 @@ register-good-requires : tie.Need-register-good-requires Inv-loop μ-loop
 register-good-requires c κs = search needs
 
 returns : tie.Need-returns Inv-loop μ-loop
-returns c = passed-stop (record { operand = Number nan }) (search needs) (c .before .before .before .before .loop .inv) (c .before .before .before .loop-test .taken) (c .before .register-good .ensures) (c .if1 .taken)
+returns c =
+    let test = c .before .before .before in
+    passed-stop (record { operand = Number nan }) (search needs) (test .before .loop .inv) (test .loop-test .taken) (c .before .register-good .ensures) (c .if1 .taken)
 
 add-i : tie.Need-add-i Inv-loop μ-loop
 add-i c = omega arith
@@ -41,7 +41,9 @@ loop-less : tie.Need-loop-less Inv-loop μ-loop
 loop-less c = omega arith
 
 loop-again : tie.Need-loop-again Inv-loop μ-loop
-loop-again c = passed-more (record { operand = Number nan }) (search needs) (c .before .before .before .before .loop .inv) (c .before .before .before .loop-test .taken) (c .before .register-good .ensures) (c .if1 .left)
+loop-again c =
+    let test = c .before .before .before in
+    passed-more (record { operand = Number nan }) (search needs) (test .before .loop .inv) (test .loop-test .taken) (c .before .register-good .ensures) (c .if1 .left)
 
 returns-2 : tie.Need-returns-2 Inv-loop μ-loop
 returns-2 c = passed-all (c .before .loop .inv) (c .loop-test .left)

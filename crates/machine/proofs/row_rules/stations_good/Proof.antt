@@ -1,21 +1,19 @@
-use mathlib.Core.List.{map}
-use Prim.Native.Nat.{_-_, _≤_}
+use Prim.Native.Nat.{_-_}
 use native.Mathlib.Omega.{arith}
 use borrow.Author.Needs.{needs}
 use Rattle.order.specs.Machine.{freeStation}
-use Rattle.order.specs.GoodOrder.{giver}
-use Rattle.machine.specs.declared.parts.StationState.the-variants as station
 use Rattle.machine.proofs.Loops.{Passed, passed-none, passed-more, passed-stop, passed-all}
-use Rattle.machine.specs.View.{viewBuffer, viewStation}
-use Rattle.machine.specs.SlotRules.{stationGood}
+use Rattle.machine.specs.declared.parts.StationState.the-variants as station
+use Rattle.machine.specs.View.{viewStation}
+use Rattle.machine.specs.SlotRules.{placeIn, stationGood}
 use Rattle.machine.proofs.row_rules.stations_good.Statement.{statement}
 use Rattle.machine.proofs.row_rules.stations_good.Tie as tie
 
 abbrev Inv-loop : tie.InvT-loop
-Inv-loop next buffers stations i₀ i = Passed viewStation freeStation 5 (stationGood (giver (map viewBuffer buffers) (map viewStation stations)) next) stations i
+Inv-loop next places stations i₀ i = Passed viewStation freeStation 5 (stationGood (placeIn places) next) stations i
 
 abbrev μ-loop : tie.MeasureT-loop
-μ-loop next buffers stations i₀ i = 5 - i
+μ-loop next places stations i₀ i = 5 - i
 
 loop-holds : tie.Need-loop-holds Inv-loop μ-loop
 loop-holds c = passed-none
@@ -30,7 +28,9 @@ station-good-requires : tie.Need-station-good-requires Inv-loop μ-loop
 station-good-requires c κs = search needs
 
 returns : tie.Need-returns Inv-loop μ-loop
-returns c = passed-stop (record { state = station.Free }) (search needs) (c .before .before .before .before .loop .inv) (c .before .before .before .loop-test .taken) (c .before .station-good .ensures) (c .if1 .taken)
+returns c =
+    let test = c .before .before .before in
+    passed-stop (record { state = station.Free }) (search needs) (test .before .loop .inv) (test .loop-test .taken) (c .before .station-good .ensures) (c .if1 .taken)
 
 add-i : tie.Need-add-i Inv-loop μ-loop
 add-i c = omega arith
@@ -39,7 +39,9 @@ loop-less : tie.Need-loop-less Inv-loop μ-loop
 loop-less c = omega arith
 
 loop-again : tie.Need-loop-again Inv-loop μ-loop
-loop-again c = passed-more (record { state = station.Free }) (search needs) (c .before .before .before .before .loop .inv) (c .before .before .before .loop-test .taken) (c .before .station-good .ensures) (c .if1 .left)
+loop-again c =
+    let test = c .before .before .before in
+    passed-more (record { state = station.Free }) (search needs) (test .before .loop .inv) (test .loop-test .taken) (c .before .station-good .ensures) (c .if1 .left)
 
 returns-2 : tie.Need-returns-2 Inv-loop μ-loop
 returns-2 c = passed-all (c .before .loop .inv) (c .loop-test .left)

@@ -31,10 +31,28 @@ stores-differ-requires-3 : tie.Need-stores-differ-requires-3
 stores-differ-requires-3 c κs = search needs
 
 returns : tie.Need-returns
-returns c = rw (apart-by-pairs (c .before .before .before .before .before .before .before .before .before .before .before .args .t1), ← (c .before .before .before .before .before .before .before .before .stores-differ .ensures), c .before .before .before .before .before .before .before .if1 .taken, ← (c .before .before .before .before .stores-differ2 .ensures), c .before .before .before .if2 .taken, c .stores-differ3 .ensures)
+returns c =
+    let second = c .before .before .before in
+    let first = second .before .before .before .before in
+    rw (
+      apart-by-pairs (first .before .before .before .before .args .t1),
+      ← (first .before .stores-differ .ensures),
+      first .if1 .taken,
+      ← (second .before .stores-differ2 .ensures),
+      second .if2 .taken,
+      c .stores-differ3 .ensures,
+    )
 
 returns-2 : tie.Need-returns-2
-returns-2 c = rw (apart-by-pairs (c .before .before .before .before .before .before .before .before .args .t1), ← (c .before .before .before .before .before .stores-differ .ensures), c .before .before .before .before .if1 .taken, ← (c .before .stores-differ2 .ensures), c .if2 .left)
+returns-2 c =
+    let first = c .before .before .before .before in
+    rw (
+      apart-by-pairs (first .before .before .before .before .args .t1),
+      ← (first .before .stores-differ .ensures),
+      first .if1 .taken,
+      ← (c .before .stores-differ2 .ensures),
+      c .if2 .left,
+    )
 
 returns-3 : tie.Need-returns-3
 returns-3 c = rw (apart-by-pairs (c .before .before .before .before .args .t1), ← (c .before .stores-differ .ensures), c .if1 .left)

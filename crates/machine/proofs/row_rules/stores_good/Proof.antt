@@ -1,21 +1,19 @@
-use mathlib.Core.List.{map}
-use Prim.Native.Nat.{_-_, _≤_}
+use Prim.Native.Nat.{_-_}
 use native.Mathlib.Omega.{arith}
 use borrow.Author.Needs.{needs}
 use Rattle.order.specs.Machine.{freeStore}
-use Rattle.order.specs.GoodOrder.{giver}
-use Rattle.machine.specs.declared.parts.StoreState.the-variants as store
 use Rattle.machine.proofs.Loops.{Passed, passed-none, passed-more, passed-stop, passed-all}
-use Rattle.machine.specs.View.{viewBuffer, viewStation, viewStore}
-use Rattle.machine.specs.SlotRules.{storeGood}
+use Rattle.machine.specs.declared.parts.StoreState.the-variants as store
+use Rattle.machine.specs.View.{viewStore}
+use Rattle.machine.specs.SlotRules.{placeIn, storeGood}
 use Rattle.machine.proofs.row_rules.stores_good.Statement.{statement}
 use Rattle.machine.proofs.row_rules.stores_good.Tie as tie
 
 abbrev Inv-loop : tie.InvT-loop
-Inv-loop next results buffers stations stores i₀ i = Passed viewStore freeStore 3 (λ k s. storeGood (giver (map viewBuffer buffers) (map viewStation stations)) next results s) stores i
+Inv-loop next results places stores i₀ i = Passed viewStore freeStore 3 (λ k s. storeGood (placeIn places) next results s) stores i
 
 abbrev μ-loop : tie.MeasureT-loop
-μ-loop next results buffers stations stores i₀ i = 3 - i
+μ-loop next results places stores i₀ i = 3 - i
 
 loop-holds : tie.Need-loop-holds Inv-loop μ-loop
 loop-holds c = passed-none
@@ -30,7 +28,9 @@ store-good-requires : tie.Need-store-good-requires Inv-loop μ-loop
 store-good-requires c κs = search needs
 
 returns : tie.Need-returns Inv-loop μ-loop
-returns c = passed-stop (record { state = store.Free }) (search needs) (c .before .before .before .before .loop .inv) (c .before .before .before .loop-test .taken) (c .before .store-good .ensures) (c .if1 .taken)
+returns c =
+    let test = c .before .before .before in
+    passed-stop (record { state = store.Free }) (search needs) (test .before .loop .inv) (test .loop-test .taken) (c .before .store-good .ensures) (c .if1 .taken)
 
 add-i : tie.Need-add-i Inv-loop μ-loop
 add-i c = omega arith
@@ -39,7 +39,9 @@ loop-less : tie.Need-loop-less Inv-loop μ-loop
 loop-less c = omega arith
 
 loop-again : tie.Need-loop-again Inv-loop μ-loop
-loop-again c = passed-more (record { state = store.Free }) (search needs) (c .before .before .before .before .loop .inv) (c .before .before .before .loop-test .taken) (c .before .store-good .ensures) (c .if1 .left)
+loop-again c =
+    let test = c .before .before .before in
+    passed-more (record { state = store.Free }) (search needs) (test .before .loop .inv) (test .loop-test .taken) (c .before .store-good .ensures) (c .if1 .left)
 
 returns-2 : tie.Need-returns-2 Inv-loop μ-loop
 returns-2 c = passed-all (c .before .loop .inv) (c .loop-test .left)

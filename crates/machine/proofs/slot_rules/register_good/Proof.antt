@@ -8,41 +8,15 @@ enum-told c = search needs
 enum-known-operand : tie.Need-enum-known-operand
 enum-known-operand c = search needs
 
-giver-of-requires : tie.Need-giver-of-requires
-giver-of-requires c κs = search needs
-
-enum-told-2 : tie.Need-enum-told-2
-enum-told-2 c = search needs
-
-enum-told-3 : tie.Need-enum-told-3
-enum-told-3 c = search needs
-
-enum-told-4 : tie.Need-enum-told-4
-enum-told-4 c = search needs
+giver-place-requires : tie.Need-giver-place-requires
+giver-place-requires c κs = search needs
 
 returns : tie.Need-returns
 returns c = search needs
 
 returns-2 : tie.Need-returns-2
-returns-2 c = rw (c .before .before .before .before .operand .given .1, ← (c .before .before .giver-of .ensures), c .enum-told2 .given .1)
-
-returns-3 : tie.Need-returns-3
-returns-3 c = rw (c .before .before .before .before .operand .given .1, ← (c .before .before .giver-of .ensures), c .enum-told3 .given .1)
-
-returns-4 : tie.Need-returns-4
-returns-4 c = rw (c .before .before .before .before .operand .given .1, ← (c .before .before .giver-of .ensures), c .enum-told4 .given .1)
+returns-2 c = rw (c .before .before .operand .given .1, c .giver-place .ensures)
 
 pub register-good-spec : {M : Type 1} → statement M
 register-good-spec =
-    tie.close
-    (tie.spec
-    enum-told
-    enum-known-operand
-    giver-of-requires
-    enum-told-2
-    enum-told-3
-    enum-told-4
-    returns
-    returns-2
-    returns-3
-    returns-4)
+    tie.close (tie.spec enum-told enum-known-operand giver-place-requires returns returns-2)

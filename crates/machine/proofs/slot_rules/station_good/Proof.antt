@@ -19,7 +19,19 @@ operand-good-requires-2 : tie.Need-operand-good-requires-2
 operand-good-requires-2 c κs = search needs
 
 returns : tie.Need-returns
-returns c = rw (c .before .before .before .before .before .before .before .state .given .1, lt-ltb _ _ (c .before .before .before .before .before .if1 .taken), ← (c .before .before .before .before .kind-suits .ensures), c .before .before .before .if2 .taken, ← (c .before .before .operand-good .ensures), c .before .if3 .taken, c .operand-good2 .ensures)
+returns c =
+    let sink = c .before .before in
+    let kind = sink .before .before in
+    let place = kind .before in
+    rw (
+      place .before .before .state .given .1,
+      lt-ltb _ _ (place .if1 .taken),
+      ← (kind .kind-suits .ensures),
+      sink .before .if2 .taken,
+      ← (sink .operand-good .ensures),
+      c .before .if3 .taken,
+      c .operand-good2 .ensures,
+    )
 
 enum-known-state-2 : tie.Need-enum-known-state-2
 enum-known-state-2 c = search needs
@@ -28,10 +40,22 @@ returns-2 : tie.Need-returns-2
 returns-2 c = search needs
 
 returns-3 : tie.Need-returns-3
-returns-3 c = rw (c .before .before .before .before .before .before .state .given .1, lt-ltb _ _ (c .before .before .before .before .if1 .taken), ← (c .before .before .before .kind-suits .ensures), c .before .before .if2 .taken, ← (c .before .operand-good .ensures), c .if3 .left)
+returns-3 c =
+    let kind = c .before .before .before in
+    let place = kind .before in
+    rw (
+      place .before .before .state .given .1,
+      lt-ltb _ _ (place .if1 .taken),
+      ← (kind .kind-suits .ensures),
+      c .before .before .if2 .taken,
+      ← (c .before .operand-good .ensures),
+      c .if3 .left,
+    )
 
 returns-4 : tie.Need-returns-4
-returns-4 c = rw (c .before .before .before .before .state .given .1, lt-ltb _ _ (c .before .before .if1 .taken), ← (c .before .kind-suits .ensures), c .if2 .left)
+returns-4 c =
+    let place = c .before .before in
+    rw (place .before .before .state .given .1, lt-ltb _ _ (place .if1 .taken), ← (c .before .kind-suits .ensures), c .if2 .left)
 
 returns-5 : tie.Need-returns-5
 returns-5 c = rw (c .before .before .state .given .1, le-ltb _ _ (c .if1 .left))

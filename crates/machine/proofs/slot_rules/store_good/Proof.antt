@@ -16,13 +16,24 @@ operand-good-requires : tie.Need-operand-good-requires
 operand-good-requires c κs = search needs
 
 returns : tie.Need-returns
-returns c = rw (c .before .before .before .before .before .state .given .1, lt-ltb _ _ (c .before .before .before .if1 .taken), ← (c .before .before .cell-good .ensures), c .before .if2 .taken, c .operand-good .ensures)
+returns c =
+    let cell = c .before .before in
+    let place = cell .before in
+    rw (
+      place .before .before .state .given .1,
+      lt-ltb _ _ (place .if1 .taken),
+      ← (cell .cell-good .ensures),
+      c .before .if2 .taken,
+      c .operand-good .ensures,
+    )
 
 returns-2 : tie.Need-returns-2
 returns-2 c = search needs
 
 returns-3 : tie.Need-returns-3
-returns-3 c = rw (c .before .before .before .before .state .given .1, lt-ltb _ _ (c .before .before .if1 .taken), ← (c .before .cell-good .ensures), c .if2 .left)
+returns-3 c =
+    let place = c .before .before in
+    rw (place .before .before .state .given .1, lt-ltb _ _ (place .if1 .taken), ← (c .before .cell-good .ensures), c .if2 .left)
 
 returns-4 : tie.Need-returns-4
 returns-4 c = rw (c .before .before .state .given .1, le-ltb _ _ (c .if1 .left))
