@@ -19,10 +19,10 @@ use Rattle.order.specs.Entries.{listRefusal, Fresh, fresh}
 use Rattle.order.specs.Asked.{State, written, logged, after, ask, asked, takenOf, begin}
 use Rattle.order.specs.Statement.{Outcome}
 use Rattle.order.proofs.Theorems.{orderTheorem}
-use Rattle.machine.specs.declared.parts.Stepped.{Stepped}
-use Rattle.machine.specs.declared.start.FreshMachine.{FreshMachine}
-use Rattle.machine.specs.View.{view, viewReleased, viewStepped, lent}
-use Rattle.machine.specs.Answers.{viewFresh}
+use Rattle.held.specs.declared.parts.Stepped.{Stepped}
+use Rattle.held.specs.declared.start.FreshMachine.{FreshMachine}
+use Rattle.held.specs.View.{view, viewReleased, viewStepped, lent}
+use Rattle.held.specs.Answers.{viewFresh}
 use Rattle.machine.specs.Step.{StepAnswer}
 use Rattle.machine.specs.Chain.{Stand, seen, Chained, here, then, Bridge, DemandThree}
 

@@ -6,32 +6,18 @@ use lib.Ieee.{Float}
 use denote.Ref.{now}
 use Rattle.numbers.proofs.Determined.{Determines, DeterminesLent, one-answer}
 use Rattle.order.specs.Entries as order
-use Rattle.machine.specs.declared.count.Left.{Left}
-use Rattle.machine.specs.declared.start.FreshMachine.{FreshMachine}
-use Rattle.machine.specs.declared.one_at_a_time.Ran.{Ran}
 use Rattle.machine.specs.declared.lowest.Lowest.{Lowest}
 use Rattle.machine.specs.declared.lowest.Lowest.the-variants.{Nothing as NoCode, Code}
 use Rattle.machine.specs.declared.lowest.LowestStep.{LowestStep}
-use Rattle.machine.specs.declared.parts.Released.{Released}
-use Rattle.machine.specs.declared.parts.Released.the-variants.{Nothing, One}
-use Rattle.machine.specs.declared.parts.Stepped.{Stepped}
-use Rattle.machine.specs.View.{view, viewRecord, viewReleased, viewStepped}
+use Rattle.held.specs.declared.parts.Released.{Released}
+use Rattle.held.specs.declared.parts.Released.the-variants.{Nothing, One}
+use Rattle.held.specs.declared.parts.Stepped.{Stepped}
+use Rattle.held.specs.View.{view, viewRecord, viewReleased, viewStepped}
 use Rattle.machine.specs.Lowest.{viewLowest, viewLowestStep}
 use Rattle.order.specs.Machine.{Released as ReleasedOf}
 use Rattle.order.specs.Issue.{Answer}
 use Rattle.order.specs.Asked.{written}
-use Rattle.machine.specs.Answers.{viewLeft, viewFresh, viewRan}
-use Rattle.machine.proofs.Exact.{view-exact}
-use Rattle.machine.proofs.good_order.good_order.Kinds as good-order-kinds
-use Rattle.machine.proofs.good_order.good_order.Reads as good-order-reads
-use Rattle.machine.proofs.count.drained.Kinds as drained-kinds
-use Rattle.machine.proofs.count.drained.Reads as drained-reads
-use Rattle.machine.proofs.count.steps_left.Kinds as steps-left-kinds
-use Rattle.machine.proofs.count.steps_left.Reads as steps-left-reads
-use Rattle.machine.proofs.start.fresh.Kinds as fresh-kinds
-use Rattle.machine.proofs.start.fresh.Reads as fresh-reads
-use Rattle.machine.proofs.one_at_a_time.one_at_a_time.Kinds as one-at-a-time-kinds
-use Rattle.machine.proofs.one_at_a_time.one_at_a_time.Reads as one-at-a-time-reads
+use Rattle.held.proofs.Exact.{view-exact}
 use Rattle.machine.proofs.lowest.lowest_step.Kinds as lowest-step-kinds
 use Rattle.machine.proofs.lowest.lowest_step.Reads as lowest-step-reads
 use Rattle.machine.proofs.step.step.Kinds as step-kinds
@@ -61,35 +47,6 @@ lowest-exact : (x y : LowestStep) → viewLowestStep x ≡ viewLowestStep y → 
 lowest-exact x y e =
     let o = code-exact (x .code) (y .code) (ap (λ (l : order.LowestStep). l .code) e) in
     λ i. record { refusal = e i .refusal; code = o i }
-
-left-exact : (x y : Left) → viewLeft x ≡ viewLeft y → x ≡ y
-left-exact x y e = ap (λ (l : order.StepsLeft). record { refusal = l .refusal; left = l .left }) e
-
-fresh-exact : (x y : FreshMachine) → viewFresh x ≡ viewFresh y → x ≡ y
-fresh-exact x y e =
-    let m = view-exact (x .machine) (y .machine) (ap (λ (f : order.Fresh Float). f .machine) e) in
-    λ i. record { machine = m i; refusal = e i .refusal }
-
-ran-exact : (x y : Ran) (cells others : List Float) → viewRan x cells ≡ viewRan y others → (x ≡ y) × (cells ≡ others)
-ran-exact x y cells others e = (
-  ap (λ (r : order.Ran Float). record { registers = r .run .registers; refusal = r .refusal }) e,
-  ap (λ (r : order.Ran Float). r .run .cells) e,
-)
-
-pub good-order-determined : Determines 3 good-order-kinds.ps good-order-kinds.r good-order-reads.Post
-good-order-determined κs a x y s t = one-answer
-
-pub drained-determined : Determines 1 drained-kinds.ps drained-kinds.r drained-reads.Post
-drained-determined κs a x y s t = one-answer
-
-pub steps-left-determined : Determines 3 steps-left-kinds.ps steps-left-kinds.r steps-left-reads.Post
-steps-left-determined κs a x y s t p q = left-exact x y (one-answer p q)
-
-pub fresh-determined : Determines 3 fresh-kinds.ps fresh-kinds.r fresh-reads.Post
-fresh-determined κs a x y s t p q = fresh-exact x y (one-answer p q)
-
-pub one-at-a-time-determined : DeterminesLent 3 one-at-a-time-kinds.ps one-at-a-time-kinds.r one-at-a-time-reads.Post (λ κs s. now (s .1 .1 .0))
-one-at-a-time-determined κs a x y s t p q = ran-exact x y (now (s .1 .1 .0)) (now (t .1 .1 .0)) (one-answer p q)
 
 pub lowest-step-determined : Determines 3 lowest-step-kinds.ps lowest-step-kinds.r lowest-step-reads.Post
 lowest-step-determined κs a x y s t p q = lowest-exact x y (one-answer p q)

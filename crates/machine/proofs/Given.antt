@@ -11,13 +11,13 @@ use lib.Seq.{set-getD}
 use Rattle.order.specs.Machine as order
 use Rattle.order.specs.Machine.{num, tag, freeStation, holding, done, freeStore, live}
 use Rattle.order.specs.Steps.{give, giveStation, giveStore, granted}
-use Rattle.machine.specs.View.{view, viewRegister, viewStation, viewStore}
+use Rattle.held.specs.View.{view, viewRegister, viewStation, viewStore}
 use Rattle.machine.specs.Inside.{waitsFor, stationWaits, storeWaits}
-use Rattle.machine.specs.declared.parts.Machine.{Machine}
-use Rattle.machine.specs.declared.parts.Register.{Register}
-use Rattle.machine.specs.declared.parts.Station.{Station}
-use Rattle.machine.specs.declared.parts.StoreBuffer.{StoreBuffer}
-use Rattle.machine.proofs.Seen.{map-set}
+use Rattle.held.specs.declared.parts.Machine.{Machine}
+use Rattle.held.specs.declared.parts.Register.{Register}
+use Rattle.held.specs.declared.parts.Station.{Station}
+use Rattle.held.specs.declared.parts.StoreBuffer.{StoreBuffer}
+use Rattle.held.proofs.Seen.{map-set}
 
 -- ONE SLOT
 module _ {A : Type 0} (t : ℕ) (v : A) where

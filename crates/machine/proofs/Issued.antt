@@ -21,12 +21,12 @@ use Rattle.order.specs.Binary64.{binary64}
 use Rattle.order.specs.Issue.{refused, taken, lowestBuffer, lowestStation, lowestStore, cellLive, withSlot, withBoth, loaded, withCell, withRegister, storing, issueOf, issueNext, wordAt, refusalOf}
 use Rattle.order.proofs.Rows.{first-some}
 use Rattle.order.proofs.Words.{WellFormed, word-formed}
-use Rattle.machine.specs.View.{viewRegister}
+use Rattle.held.specs.View.{viewRegister}
 use Rattle.machine.specs.Inside.{viewFound}
 use Rattle.machine.specs.declared.free.Found.{Found}
-use Rattle.machine.specs.declared.parts.Operand.the-variants.{Number}
-use Rattle.machine.specs.declared.parts.Register.{Register}
-use Rattle.machine.proofs.Seen.{any-default}
+use Rattle.held.specs.declared.parts.Operand.the-variants.{Number}
+use Rattle.held.specs.declared.parts.Register.{Register}
+use Rattle.held.proofs.Seen.{any-default}
 
 -- the answer of a finder, once it is known which
 pub told : {r f : Found} {o : Option ℕ} → viewFound r ≡ o → r ≡ f → o ≡ viewFound f

@@ -7,18 +7,18 @@ use lib.Ieee.{nan}
 use lib.ListN.{getD, List·getD-map}
 use Rattle.order.specs.Machine.{num, freeBuffer, freeStation, freeStore, storeCell}
 use Rattle.order.specs.GoodOrder.{hasCell}
-use Rattle.machine.specs.View.{viewRegister, viewBuffer, viewBufferState, viewStation, viewStationState, viewStore, viewStoreState}
+use Rattle.held.specs.View.{viewRegister, viewBuffer, viewBufferState, viewStation, viewStationState, viewStore, viewStoreState}
 use Rattle.machine.specs.Inside.{cellLiveIn}
-use Rattle.machine.specs.declared.parts.Buffer.{Buffer}
-use Rattle.machine.specs.declared.parts.BufferState.{BufferState}
-use Rattle.machine.specs.declared.parts.BufferState.the-variants as buffer
-use Rattle.machine.specs.declared.parts.Station.{Station}
-use Rattle.machine.specs.declared.parts.StationState.{StationState}
-use Rattle.machine.specs.declared.parts.StationState.the-variants as station
-use Rattle.machine.specs.declared.parts.StoreBuffer.{StoreBuffer}
-use Rattle.machine.specs.declared.parts.StoreState.{StoreState}
-use Rattle.machine.specs.declared.parts.StoreState.the-variants as store
-use Rattle.machine.proofs.Seen.{seen}
+use Rattle.held.specs.declared.parts.Buffer.{Buffer}
+use Rattle.held.specs.declared.parts.BufferState.{BufferState}
+use Rattle.held.specs.declared.parts.BufferState.the-variants as buffer
+use Rattle.held.specs.declared.parts.Station.{Station}
+use Rattle.held.specs.declared.parts.StationState.{StationState}
+use Rattle.held.specs.declared.parts.StationState.the-variants as station
+use Rattle.held.specs.declared.parts.StoreBuffer.{StoreBuffer}
+use Rattle.held.specs.declared.parts.StoreState.{StoreState}
+use Rattle.held.specs.declared.parts.StoreState.the-variants as store
+use Rattle.held.proofs.Seen.{seen}
 
 pub buffer-seen : (bs : List Buffer) (i : ℕ) {s : BufferState} → getD bs i (record { state = buffer.Free }) .state ≡ s
     → getD (map viewBuffer bs) i freeBuffer ≡ viewBufferState s

@@ -11,10 +11,10 @@ use Rattle.order.specs.Binary64.{binary64}
 use Rattle.order.specs.GoodOrder.{goodOrder}
 use Rattle.order.specs.Steps.{perform, step}
 use Rattle.order.specs.Asked.{written}
-use Rattle.machine.specs.declared.parts.Machine.{Machine}
-use Rattle.machine.specs.declared.parts.Released.the-variants.{Nothing}
-use Rattle.machine.specs.declared.parts.Stepped.{Stepped}
-use Rattle.machine.specs.View.{view, viewReleased, viewStepped, lent}
+use Rattle.held.specs.declared.parts.Machine.{Machine}
+use Rattle.held.specs.declared.parts.Released.the-variants.{Nothing}
+use Rattle.held.specs.declared.parts.Stepped.{Stepped}
+use Rattle.held.specs.View.{view, viewReleased, viewStepped, lent}
 use Rattle.machine.specs.Step.{StepAnswer}
 
 module _ (words : List ℕ) (operands : List Float) (m : Machine) (cells : List Float) (code : ℕ) where

@@ -11,11 +11,11 @@ use Rattle.order.specs.OneAtATime.{Run}
 use Rattle.order.specs.Entries.{fresh}
 use Rattle.order.specs.Asked.{State, logged, asked, takenOf, begin}
 use Rattle.order.specs.Statement.{Outcome}
-use Rattle.machine.specs.declared.parts.Machine.{Machine}
-use Rattle.machine.specs.declared.parts.Stepped.{Stepped}
-use Rattle.machine.specs.declared.start.FreshMachine.{FreshMachine}
-use Rattle.machine.specs.View.{view, viewReleased, lent}
-use Rattle.machine.specs.Answers.{viewFresh}
+use Rattle.held.specs.declared.parts.Machine.{Machine}
+use Rattle.held.specs.declared.parts.Stepped.{Stepped}
+use Rattle.held.specs.declared.start.FreshMachine.{FreshMachine}
+use Rattle.held.specs.View.{view, viewReleased, lent}
+use Rattle.held.specs.Answers.{viewFresh}
 use Rattle.machine.specs.Step.{StepAnswer}
 
 -- a machine of the code, its result cells, and what was released so far

@@ -1,5 +1,5 @@
 // The step codes of 01, named once, and a code read.
-use crate::parts::Tag;
+use held::parts::Tag;
 ghost use mathlib.Core.Path.{_≡_};
 ghost use Rattle.machine.specs.Inside.{Read};
 

@@ -1,11 +1,11 @@
 // "Issue, always using the lowest-numbered free one": the finders.
-use crate::parts::Buffer;
-use crate::parts::BufferState;
-use crate::parts::Station;
-use crate::parts::StationState;
-use crate::parts::StoreBuffer;
-use crate::parts::StoreState;
-use crate::parts::Tag;
+use held::parts::Buffer;
+use held::parts::BufferState;
+use held::parts::Station;
+use held::parts::StationState;
+use held::parts::StoreBuffer;
+use held::parts::StoreState;
+use held::parts::Tag;
 use numbers::Operation;
 ghost use mathlib.Core.Path.{_≡_};
 ghost use mathlib.Core.Bool.{_&&_};
@@ -14,7 +14,7 @@ ghost use Prim.Native.Nat.{_<_};
 ghost use Rattle.order.specs.Tags.{suits, stationCount};
 ghost use Rattle.order.specs.Machine.{isFreeBuffer, isFreeStation, isFreeStore, storeCell};
 ghost use Rattle.order.specs.GoodOrder.{hasCell};
-ghost use Rattle.machine.specs.View.{viewBuffer, viewStation, viewStore};
+ghost use Rattle.held.specs.View.{viewBuffer, viewStation, viewStore};
 ghost use Rattle.machine.specs.Inside.{viewFound, lowestBufferIn, lowestStationIn, lowestStoreIn, cellLiveIn};
 
 // A slot by its index from 0, or none.

@@ -1,10 +1,10 @@
 // The bus: "every register, station and store operand with that tag takes the number".
-use crate::parts::Machine;
-use crate::parts::Tag;
 use crate::slots;
+use held::parts::Machine;
+use held::parts::Tag;
 ghost use mathlib.Core.Path.{_≡_};
 ghost use Rattle.order.specs.Steps.{granted};
-ghost use Rattle.machine.specs.View.{view};
+ghost use Rattle.held.specs.View.{view};
 
 // A slot that does not wait for the tag is not stored.
 pub(crate) fn give(mut m: Machine, t: Tag, number: f64) -> Machine

@@ -6,20 +6,20 @@ use crate::free::lowest_station;
 use crate::free::lowest_store;
 use crate::moves::refused;
 use crate::moves::taken;
-use crate::parts::Buffer;
-use crate::parts::BufferState;
-use crate::parts::Fetch;
-use crate::parts::Machine;
-use crate::parts::Operand;
-use crate::parts::Pending;
-use crate::parts::Register;
-use crate::parts::Station;
-use crate::parts::StationState;
-use crate::parts::Stepped;
-use crate::parts::StoreBuffer;
-use crate::parts::StoreState;
-use crate::parts::Tag;
-use crate::parts::Work;
+use crate::tags;
+use held::parts::Buffer;
+use held::parts::BufferState;
+use held::parts::Fetch;
+use held::parts::Machine;
+use held::parts::Operand;
+use held::parts::Pending;
+use held::parts::Register;
+use held::parts::Station;
+use held::parts::StationState;
+use held::parts::Stepped;
+use held::parts::StoreBuffer;
+use held::parts::StoreState;
+use held::parts::Work;
 use numbers::Operation;
 use words::Form;
 use words::refusal;
@@ -30,7 +30,7 @@ ghost use Rattle.order.specs.Tags.{registerCount};
 ghost use Rattle.order.specs.Instruction as instruction;
 ghost use Rattle.order.specs.Binary64.{binary64};
 ghost use Rattle.order.specs.Issue.{issueOf, issueNext};
-ghost use Rattle.machine.specs.View.{view, viewStepped};
+ghost use Rattle.held.specs.View.{view, viewStepped};
 ghost use Rattle.machine.specs.Inside.{lentTo, Room};
 
 // "Registers are 0, 2, 4, 6": a register's index.
@@ -51,7 +51,7 @@ fn issue_load(mut m: Machine, r: usize, cell: usize) -> Stepped
         Found::At(b) => {
             m.next = place + 1;
             m.registers[r] = Register {
-                operand: Operand::Waits(Tag::of_buffer(b)),
+                operand: Operand::Waits(tags::of_buffer(b)),
             };
             m.buffers[b] = Buffer {
                 state: BufferState::Waiting(Fetch {
@@ -92,7 +92,7 @@ fn issue_cell_arithmetic(mut m: Machine, o: Operation, r: usize, cell: usize) ->
             Found::At(s) => {
                 m.next = place + 1;
                 m.registers[r] = Register {
-                    operand: Operand::Waits(Tag::of_station(s)),
+                    operand: Operand::Waits(tags::of_station(s)),
                 };
                 m.buffers[b] = Buffer {
                     state: BufferState::Waiting(Fetch {
@@ -105,7 +105,7 @@ fn issue_cell_arithmetic(mut m: Machine, o: Operation, r: usize, cell: usize) ->
                         place: place,
                         operation: o,
                         sink: sink,
-                        source: Operand::Waits(Tag::of_buffer(b)),
+                        source: Operand::Waits(tags::of_buffer(b)),
                     }),
                 };
                 taken(m)
@@ -130,7 +130,7 @@ fn issue_register_arithmetic(mut m: Machine, o: Operation, r: usize, x: usize) -
         Found::At(s) => {
             m.next = place + 1;
             m.registers[r] = Register {
-                operand: Operand::Waits(Tag::of_station(s)),
+                operand: Operand::Waits(tags::of_station(s)),
             };
             m.stations[s] = Station {
                 state: StationState::Holding(Work {

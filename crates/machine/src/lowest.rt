@@ -1,12 +1,12 @@
 // The lowest permitted step.
-use crate::good_order::in_good_order;
-use crate::parts::Machine;
 use crate::perform::perform;
+use held::good_order::in_good_order;
+use held::parts::Machine;
 use words::refusal;
 ghost use mathlib.Core.Path.{_≡_};
 ghost use Rattle.order.specs.Binary64.{binary64};
 ghost use Rattle.order.specs.Entries.{lowestPermitted, lowestStep};
-ghost use Rattle.machine.specs.View.{view, lent};
+ghost use Rattle.held.specs.View.{view, lent};
 ghost use Rattle.machine.specs.Inside.{lentTo};
 ghost use Rattle.machine.specs.Lowest.{viewLowest, viewLowestStep};
 

@@ -1,18 +1,18 @@
 // The steps but issue: each is permitted or refused before anything is stored, and stores only the slots that change.
 use crate::give::give;
-use crate::parts::Buffer;
-use crate::parts::BufferState;
-use crate::parts::Held;
-use crate::parts::Machine;
-use crate::parts::Operand;
-use crate::parts::Record;
-use crate::parts::Released;
-use crate::parts::Station;
-use crate::parts::StationState;
-use crate::parts::Stepped;
-use crate::parts::StoreBuffer;
-use crate::parts::StoreState;
-use crate::parts::Tag;
+use crate::tags;
+use held::parts::Buffer;
+use held::parts::BufferState;
+use held::parts::Held;
+use held::parts::Machine;
+use held::parts::Operand;
+use held::parts::Record;
+use held::parts::Released;
+use held::parts::Station;
+use held::parts::StationState;
+use held::parts::Stepped;
+use held::parts::StoreBuffer;
+use held::parts::StoreState;
 use words::refusal;
 ghost use mathlib.Core.Path.{_≡_};
 ghost use mathlib.Core.List.{[]};
@@ -22,7 +22,7 @@ ghost use Rattle.order.specs.Machine.{bufferAt, stationAt, storeAt};
 ghost use Rattle.order.specs.Binary64.{binary64};
 ghost use Rattle.order.specs.Issue as order;
 ghost use Rattle.order.specs.Steps.{operandCell, arrive, complete, grantBuffer, grantStation, releaseStore};
-ghost use Rattle.machine.specs.View.{view, viewStepped};
+ghost use Rattle.held.specs.View.{view, viewStepped};
 ghost use Rattle.machine.specs.Inside.{cellsAlone};
 
 // "A refused call returns the machine as given and writes nothing."
@@ -122,7 +122,7 @@ pub(crate) fn grant_buffer(m: Machine, b: usize) -> Stepped
         BufferState::Free => refused(m, refusal::NOT_NOW),
         BufferState::Waiting(_) => refused(m, refusal::NOT_NOW),
         BufferState::Full(h) => {
-            let mut n = give(m, Tag::of_buffer(b), h.number);
+            let mut n = give(m, tags::of_buffer(b), h.number);
             n.buffers[b] = Buffer {
                 state: BufferState::Free,
             };
@@ -141,7 +141,7 @@ pub(crate) fn grant_station(m: Machine, u: usize) -> Stepped
         StationState::Free => refused(m, refusal::NOT_NOW),
         StationState::Holding(_) => refused(m, refusal::NOT_NOW),
         StationState::Done(h) => {
-            let mut n = give(m, Tag::of_station(u), h.number);
+            let mut n = give(m, tags::of_station(u), h.number);
             n.stations[u] = Station {
                 state: StationState::Free,
             };

@@ -3,13 +3,13 @@ use crate::code::Step;
 use crate::code::step_of;
 use crate::issue::issue;
 use crate::moves;
-use crate::parts::Machine;
-use crate::parts::Stepped;
+use held::parts::Machine;
+use held::parts::Stepped;
 use words::refusal;
 ghost use mathlib.Core.Path.{_≡_};
 ghost use Rattle.order.specs.Binary64.{binary64};
 ghost use Rattle.order.specs.Steps.{perform};
-ghost use Rattle.machine.specs.View.{view, viewStepped};
+ghost use Rattle.held.specs.View.{view, viewStepped};
 ghost use Rattle.machine.specs.Inside.{lentTo};
 
 pub(crate) fn perform(

@@ -1,16 +1,16 @@
 // One slot at a time: whether it waits for a tag, and what it becomes.
-use crate::parts::Operand;
-use crate::parts::Pending;
-use crate::parts::Register;
-use crate::parts::Station;
-use crate::parts::StationState;
-use crate::parts::StoreBuffer;
-use crate::parts::StoreState;
-use crate::parts::Tag;
-use crate::parts::Work;
+use held::parts::Operand;
+use held::parts::Pending;
+use held::parts::Register;
+use held::parts::Station;
+use held::parts::StationState;
+use held::parts::StoreBuffer;
+use held::parts::StoreState;
+use held::parts::Tag;
+use held::parts::Work;
 ghost use mathlib.Core.Path.{_≡_};
 ghost use Rattle.order.specs.Steps.{give, giveStation, giveStore};
-ghost use Rattle.machine.specs.View.{viewOperand, viewRegister, viewStation, viewStore};
+ghost use Rattle.held.specs.View.{viewOperand, viewRegister, viewStation, viewStore};
 ghost use Rattle.machine.specs.Inside.{waitsFor, stationWaits, storeWaits};
 
 fn operand_waits(o: Operand, t: Tag) -> bool

@@ -1,14 +1,14 @@
 // One step: the entry that checks the list's length and the machine, and writes the result cell of a release.
-use crate::good_order::in_good_order;
-use crate::parts::Machine;
-use crate::parts::Released;
-use crate::parts::Stepped;
 use crate::perform::perform;
+use held::good_order::in_good_order;
+use held::parts::Machine;
+use held::parts::Released;
+use held::parts::Stepped;
 use words::LIST_LIMIT;
 use words::refusal;
 ghost use mathlib.Core.Path.{_≡_};
 ghost use Rattle.order.specs.Asked.{written};
-ghost use Rattle.machine.specs.View.{viewReleased};
+ghost use Rattle.held.specs.View.{viewReleased};
 ghost use Rattle.machine.specs.Step.{StepAnswer};
 
 // "the cell is written". A cell beyond the area is none: good order rules it out.

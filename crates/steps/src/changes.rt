@@ -1,20 +1,20 @@
 // Changes that a session makes to its fresh machine: any slot, damaged as it likes.
 use crate::scan::number_at;
 use crate::scan::quarters;
-use machine::parts::Buffer;
-use machine::parts::BufferState;
-use machine::parts::Fetch;
-use machine::parts::Held;
-use machine::parts::Machine;
-use machine::parts::Operand;
-use machine::parts::Pending;
-use machine::parts::Register;
-use machine::parts::Station;
-use machine::parts::StationState;
-use machine::parts::StoreBuffer;
-use machine::parts::StoreState;
-use machine::parts::Tag;
-use machine::parts::Work;
+use held::parts::Buffer;
+use held::parts::BufferState;
+use held::parts::Fetch;
+use held::parts::Held;
+use held::parts::Machine;
+use held::parts::Operand;
+use held::parts::Pending;
+use held::parts::Register;
+use held::parts::Station;
+use held::parts::StationState;
+use held::parts::StoreBuffer;
+use held::parts::StoreState;
+use held::parts::Tag;
+use held::parts::Work;
 use numbers::Operation;
 
 // A machine, and the place of the session's next number.

@@ -1,7 +1,7 @@
 // What the program prints.
+use held::parts::Operand;
+use held::parts::Register;
 use libc::STDOUT_FILENO;
-use machine::parts::Operand;
-use machine::parts::Register;
 
 pub(crate) fn text(bytes: &[u8]) {
     io::write_all(STDOUT_FILENO, bytes);

@@ -10,16 +10,16 @@ use crate::scan::number_at;
 use crate::scan::quarters;
 use crate::scan::row_at;
 use crate::scan::words_at;
-use machine::count::drained;
-use machine::count::steps_left;
-use machine::good_order::good_order;
+use alone::one_at_a_time::one_at_a_time;
+use held::count::drained;
+use held::count::steps_left;
+use held::good_order::good_order;
+use held::parts::Machine;
+use held::parts::Register;
+use held::parts::Released;
+use held::start::fresh;
 use machine::lowest::Lowest;
 use machine::lowest::lowest_step;
-use machine::one_at_a_time::one_at_a_time;
-use machine::parts::Machine;
-use machine::parts::Register;
-use machine::parts::Released;
-use machine::start::fresh;
 use machine::step::step;
 
 fn released(r: Released) {

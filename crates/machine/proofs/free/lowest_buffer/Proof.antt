@@ -5,10 +5,10 @@ use Prim.Native.Nat.{ℕ, _-_}
 use native.Mathlib.Omega.{arith}
 use lib.ListN.{getD}
 use Rattle.order.specs.Machine.{freeBuffer, isFreeBuffer}
-use Rattle.machine.specs.View.{viewBuffer}
-use Rattle.machine.specs.declared.parts.Buffer.{Buffer}
-use Rattle.machine.specs.declared.parts.BufferState.the-variants.{Free}
-use Rattle.machine.proofs.Seen.{seen}
+use Rattle.held.specs.View.{viewBuffer}
+use Rattle.held.specs.declared.parts.Buffer.{Buffer}
+use Rattle.held.specs.declared.parts.BufferState.the-variants.{Free}
+use Rattle.held.proofs.Seen.{seen}
 use Rattle.machine.proofs.Search.{Looking, looking-none, looking-more, looking-found, looking-end}
 use borrow.Author.Needs.{needs}
 use Rattle.machine.proofs.free.lowest_buffer.Statement.{statement}

@@ -7,10 +7,10 @@ use lib.ListN.{getD}
 use Rattle.numbers.specs.declared.Operation.{Operation}
 use Rattle.order.specs.Tags.{suits}
 use Rattle.order.specs.Machine.{freeStation, isFreeStation}
-use Rattle.machine.specs.View.{viewStation}
-use Rattle.machine.specs.declared.parts.Station.{Station}
-use Rattle.machine.specs.declared.parts.StationState.the-variants.{Free}
-use Rattle.machine.proofs.Seen.{seen}
+use Rattle.held.specs.View.{viewStation}
+use Rattle.held.specs.declared.parts.Station.{Station}
+use Rattle.held.specs.declared.parts.StationState.the-variants.{Free}
+use Rattle.held.proofs.Seen.{seen}
 use Rattle.machine.proofs.Search.{Looking, looking-none, looking-more, looking-found, looking-end}
 use borrow.Author.Needs.{needs}
 use Rattle.machine.proofs.free.lowest_station.Statement.{statement}

@@ -4,10 +4,10 @@ use native.Mathlib.Omega.{arith}
 use lib.Ieee.{nan}
 use lib.ListN.{length, length-map}
 use borrow.Author.Tests.{not-true}
-use Rattle.machine.specs.View.{view}
-use Rattle.machine.specs.declared.parts.Operand.the-variants.{Number}
-use Rattle.machine.specs.declared.parts.StationState.the-variants as station
-use Rattle.machine.specs.declared.parts.StoreState.the-variants as store
+use Rattle.held.specs.View.{view}
+use Rattle.held.specs.declared.parts.Operand.the-variants.{Number}
+use Rattle.held.specs.declared.parts.StationState.the-variants as station
+use Rattle.held.specs.declared.parts.StoreState.the-variants as store
 use Rattle.machine.proofs.Given.{Giving, giving-none, register-given, register-kept, station-given, station-kept, store-given, store-kept, given-all}
 use borrow.Author.Needs.{needs}
 use Rattle.machine.proofs.give.give.Statement.{statement}

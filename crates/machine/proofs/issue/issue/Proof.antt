@@ -4,7 +4,7 @@ use denote.Ref.{now}
 use Rattle.words.specs.Instructions.{formOf}
 use Rattle.order.specs.Instruction.{indexOf}
 use Rattle.order.specs.Issue.{refused}
-use Rattle.machine.specs.View.{view}
+use Rattle.held.specs.View.{view}
 use Rattle.machine.specs.Inside.{lentTo}
 use Rattle.machine.proofs.Issued.{Reading, well-formed, issued, issue-end, issue-bad}
 use borrow.Author.Needs.{needs}

@@ -2,8 +2,8 @@ use mathlib.Core.Path.{_≡_, sym, _∙_}
 use mathlib.Core.Option.{some}
 use native.Mathlib.Numerals.{add-one}
 use Rattle.order.specs.Issue.{lowestBuffer, lowestStation}
-use Rattle.machine.specs.View.{view}
-use Rattle.machine.proofs.Seen.{map-set}
+use Rattle.held.specs.View.{view}
+use Rattle.held.proofs.Seen.{map-set}
 use Rattle.machine.proofs.Issued.{told, register-seen, buffer-below, station-below, cell-by}
 use lib.ListN.{length, length-map}
 use mathlib.Core.Path.{refl}

@@ -1,7 +1,7 @@
 use mathlib.Core.Path.{_≡_}
 use native.Mathlib.Numerals.{add-one}
 use lib.ListN.{length, length-map}
-use Rattle.machine.proofs.Seen.{map-set}
+use Rattle.held.proofs.Seen.{map-set}
 use Rattle.machine.proofs.Issued.{register-seen}
 use borrow.Author.Needs.{needs}
 use Rattle.machine.proofs.issue.issue_copy.Statement.{statement}

@@ -2,8 +2,8 @@ use mathlib.Core.Path.{_≡_, sym, _∙_}
 use mathlib.Core.Option.{some}
 use native.Mathlib.Numerals.{add-one}
 use Rattle.order.specs.Issue.{lowestStore}
-use Rattle.machine.specs.View.{view}
-use Rattle.machine.proofs.Seen.{map-set}
+use Rattle.held.specs.View.{view}
+use Rattle.held.proofs.Seen.{map-set}
 use Rattle.machine.proofs.Issued.{told, register-seen, store-below, store-live, store-by}
 use lib.ListN.{length, length-map}
 use native.Mathlib.Omega.{arith}

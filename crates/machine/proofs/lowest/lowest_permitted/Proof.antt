@@ -11,9 +11,9 @@ use Rattle.order.specs.Issue.{Answer, isTaken}
 use Rattle.order.specs.Binary64.{binary64}
 use Rattle.order.specs.Steps.{perform}
 use Rattle.order.specs.Entries.{lowestPermitted}
-use Rattle.machine.specs.declared.parts.Machine.{Machine}
-use Rattle.machine.specs.declared.parts.Stepped.{Stepped}
-use Rattle.machine.specs.View.{view, viewStepped}
+use Rattle.held.specs.declared.parts.Machine.{Machine}
+use Rattle.held.specs.declared.parts.Stepped.{Stepped}
+use Rattle.held.specs.View.{view, viewStepped}
 use Rattle.machine.specs.Inside.{lentTo}
 use Rattle.machine.proofs.First.{Searching, searching-none, searching-more, searching-found, searching-all}
 use Rattle.machine.proofs.lowest.lowest_permitted.Statement.{statement}

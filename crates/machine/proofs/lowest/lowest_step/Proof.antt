@@ -5,8 +5,8 @@ use borrow.Author.Tests.{not-true, not-false}
 use lib.Ieee.{Float}
 use Rattle.order.specs.Machine.{Lent}
 use Rattle.order.specs.Binary64.{binary64}
-use Rattle.machine.specs.View.{view, lent}
-use Rattle.machine.proofs.Checked.{lowest-refused, lowest-disordered, lowest-found}
+use Rattle.held.specs.View.{view, lent}
+use Rattle.held.proofs.Checked.{lowest-refused, lowest-disordered, lowest-found}
 use borrow.Author.Needs.{needs}
 use Rattle.machine.proofs.lowest.lowest_step.Statement.{statement}
 use Rattle.machine.proofs.lowest.lowest_step.Tie as tie

@@ -3,7 +3,7 @@ use lib.Ieee.{Float}
 use Rattle.order.specs.Machine.{Machine, freeBuffer}
 use Rattle.order.specs.Issue.{taken}
 use Rattle.order.specs.Steps.{putBuffer}
-use Rattle.machine.proofs.Seen.{map-set}
+use Rattle.held.proofs.Seen.{map-set}
 use Rattle.machine.proofs.SlotSeen.{buffer-seen}
 use borrow.Author.Needs.{needs}
 use Rattle.machine.proofs.moves.grant_buffer.Statement.{statement}

@@ -3,7 +3,7 @@ use lib.Ieee.{Float}
 use Rattle.order.specs.Machine.{Machine, freeStation}
 use Rattle.order.specs.Issue.{taken}
 use Rattle.order.specs.Steps.{putStation}
-use Rattle.machine.proofs.Seen.{map-set}
+use Rattle.held.proofs.Seen.{map-set}
 use Rattle.machine.proofs.SlotSeen.{station-seen}
 use borrow.Author.Needs.{needs}
 use Rattle.machine.proofs.moves.grant_station.Statement.{statement}

@@ -3,7 +3,7 @@ use mathlib.Core.Path.{sym}
 use lib.Ieee.{nan}
 use lib.ListN.{List·getD-eq-default}
 use Rattle.numbers.specs.Number.{numberOf}
-use Rattle.machine.proofs.Seen.{any-default}
+use Rattle.held.proofs.Seen.{any-default}
 use borrow.Author.Needs.{needs}
 use Rattle.machine.proofs.moves.operand_cell.Statement.{statement}
 use Rattle.machine.proofs.moves.operand_cell.Tie as tie

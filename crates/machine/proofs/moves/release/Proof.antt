@@ -1,4 +1,4 @@
-use Rattle.machine.proofs.Seen.{map-set}
+use Rattle.held.proofs.Seen.{map-set}
 use Rattle.machine.proofs.SlotSeen.{store-seen}
 use borrow.Author.Needs.{needs}
 use Rattle.machine.proofs.moves.release.Statement.{statement}

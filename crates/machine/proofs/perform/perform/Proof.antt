@@ -1,6 +1,6 @@
 use mathlib.Core.Path.{sym, _∙_}
 use denote.Ref.{now}
-use Rattle.machine.specs.View.{view}
+use Rattle.held.specs.View.{view}
 use Rattle.machine.specs.Inside.{lentTo}
 use Rattle.machine.proofs.Codes.{in-row, performed}
 use borrow.Author.Needs.{needs}

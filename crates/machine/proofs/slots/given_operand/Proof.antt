@@ -1,4 +1,4 @@
-use Rattle.machine.specs.View.{viewOperand}
+use Rattle.held.specs.View.{viewOperand}
 use mathlib.Core.Path.{sym, _∙_}
 use Rattle.machine.proofs.Given.{operand-takes, operand-keeps}
 use borrow.Author.Needs.{needs}

@@ -1,0 +1,81 @@
+use borrow.Author.Tests.{lt-ltb, le-ltb}
+use borrow.Author.Needs.{needs}
+use Rattle.held.proofs.slot_rules.station_good.Statement.{statement}
+use Rattle.held.proofs.slot_rules.station_good.Tie as tie
+
+enum-told : tie.Need-enum-told
+enum-told c = search needs
+
+enum-known-state : tie.Need-enum-known-state
+enum-known-state c = search needs
+
+suits-requires : tie.Need-suits-requires
+suits-requires c κs = search needs
+
+operand-good-requires : tie.Need-operand-good-requires
+operand-good-requires c κs = search needs
+
+operand-good-requires-2 : tie.Need-operand-good-requires-2
+operand-good-requires-2 c κs = search needs
+
+returns : tie.Need-returns
+returns c =
+    let sink = c .before .before in
+    let kind = sink .before .before in
+    let place = kind .before in
+    rw (
+      place .before .before .state .given .1,
+      lt-ltb _ _ (place .if1 .taken),
+      ← (kind .suits .ensures),
+      sink .before .if2 .taken,
+      ← (sink .operand-good .ensures),
+      c .before .if3 .taken,
+      c .operand-good2 .ensures,
+    )
+
+enum-known-state-2 : tie.Need-enum-known-state-2
+enum-known-state-2 c = search needs
+
+returns-2 : tie.Need-returns-2
+returns-2 c = search needs
+
+returns-3 : tie.Need-returns-3
+returns-3 c =
+    let kind = c .before .before .before in
+    let place = kind .before in
+    rw (
+      place .before .before .state .given .1,
+      lt-ltb _ _ (place .if1 .taken),
+      ← (kind .suits .ensures),
+      c .before .before .if2 .taken,
+      ← (c .before .operand-good .ensures),
+      c .if3 .left,
+    )
+
+returns-4 : tie.Need-returns-4
+returns-4 c =
+    let place = c .before .before in
+    rw (place .before .before .state .given .1, lt-ltb _ _ (place .if1 .taken), ← (c .before .suits .ensures), c .if2 .left)
+
+returns-5 : tie.Need-returns-5
+returns-5 c = rw (c .before .before .state .given .1, le-ltb _ _ (c .if1 .left))
+
+returns-6 : tie.Need-returns-6
+returns-6 c = rw (c .before .before .state2 .given .1)
+
+pub station-good-spec : {M : Type 1} → statement M
+station-good-spec =
+    tie.close
+    (tie.spec
+    enum-told
+    enum-known-state
+    suits-requires
+    operand-good-requires
+    operand-good-requires-2
+    returns
+    enum-known-state-2
+    returns-2
+    returns-3
+    returns-4
+    returns-5
+    returns-6)

@@ -1,0 +1,4 @@
+pub mod Answers
+pub mod SlotRules
+pub mod SlotsLeft
+pub mod View
