@@ -1,11 +1,12 @@
 // The one-at-a-time run (01's table of instructions, and "Refusal numbers").
+use held::parts::Register;
 use words::Form;
 use words::refusal;
 ghost use mathlib.Core.Path.{_≡_};
 ghost use lib.ListN.{length};
 ghost use Rattle.words.specs.Check.{wordRefusal};
 ghost use Rattle.order.specs.Tags.{registerCount};
-ghost use Rattle.order.specs.Instruction.{indexOf, decode};
+ghost use Rattle.order.specs.Instruction.{decode};
 ghost use Rattle.order.specs.OneAtATime.{execute};
 ghost use Rattle.order.specs.Entries.{oneAtATime};
 ghost use Rattle.order.specs.Binary64.{binary64};
@@ -19,13 +20,6 @@ pub struct Ran {
     pub refusal: u32,
 }
 
-// Registers are 0, 2, 4, 6: by their index.
-fn index_of(register: u32) -> usize
-    ensures { λ r. ⌜ r ≡ indexOf register ⌝ }
-{
-    (register / 2) as usize
-}
-
 // One instruction: "R1 takes the operand"; "R1 plus, minus, times, over operand to R1"; "R1 to the result cell". The word has been checked.
 fn execute(word: u32, registers: &mut [f64; 4], operands: &[f64], results: &mut [f64])
     requires { ⌜ wordRefusal (length (now operands)) (length (now results)) word ≡ 0 ⌝ }
@@ -33,7 +27,7 @@ fn execute(word: u32, registers: &mut [f64; 4], operands: &[f64], results: &mut 
     ensures { λ r. ⌜ at (now (registers .exit)) (now (results .exit)) ≡ execute binary64 (operandsAlone (now (operands .entry))) (decode word) (at (now (registers .entry)) (now (results .entry))) ⌝ }
 {
     let form = words::form_of(words::operation_of(word));
-    let r = index_of(words::r1_of(word));
+    let r = Register::index_of(words::r1_of(word));
     let operand = words::operand_of(word);
     let cell = operand as usize;
     match form {
@@ -42,13 +36,17 @@ fn execute(word: u32, registers: &mut [f64; 4], operands: &[f64], results: &mut 
             registers[r] = operands[cell];
         }
         Form::LDR => {
-            registers[r] = registers[index_of(operand)];
+            registers[r] = registers[Register::index_of(operand)];
         }
         Form::CellArithmetic(operation) => {
             registers[r] = numbers::computed(operation, registers[r], operands[cell]);
         }
         Form::RegisterArithmetic(operation) => {
-            registers[r] = numbers::computed(operation, registers[r], registers[index_of(operand)]);
+            registers[r] = numbers::computed(
+                operation,
+                registers[r],
+                registers[Register::index_of(operand)],
+            );
         }
         Form::STD => {
             results[cell] = registers[r];

@@ -15,6 +15,18 @@ use Rattle.held.proofs.count.steps_left.Kinds as steps-left-kinds
 use Rattle.held.proofs.count.steps_left.Reads as steps-left-reads
 use Rattle.held.proofs.start.fresh.Kinds as fresh-kinds
 use Rattle.held.proofs.start.fresh.Reads as fresh-reads
+use Rattle.held.proofs.good_order.in_good_order.Kinds as in-good-order-kinds
+use Rattle.held.proofs.good_order.in_good_order.Reads as in-good-order-reads
+use Rattle.held.proofs.parts.Tag.suits.Kinds as suits-kinds
+use Rattle.held.proofs.parts.Tag.suits.Reads as suits-reads
+use Rattle.held.proofs.parts.Tag.of_buffer.Kinds as of-buffer-kinds
+use Rattle.held.proofs.parts.Tag.of_buffer.Reads as of-buffer-reads
+use Rattle.held.proofs.parts.Tag.of_station.Kinds as of-station-kinds
+use Rattle.held.proofs.parts.Tag.of_station.Reads as of-station-reads
+use Rattle.held.proofs.parts.Register.index_of.Kinds as index-of-kinds
+use Rattle.held.proofs.parts.Register.index_of.Reads as index-of-reads
+use Rattle.held.specs.declared.parts.Tag.{Tag}
+use Prim.Native.Nat.{ℕ}
 
 left-exact : (x y : Left) → viewLeft x ≡ viewLeft y → x ≡ y
 left-exact x y e = ap (λ (l : order.StepsLeft). record { refusal = l .refusal; left = l .left }) e
@@ -35,3 +47,21 @@ steps-left-determined κs a x y s t p q = left-exact x y (one-answer p q)
 
 pub fresh-determined : Determines 3 fresh-kinds.ps fresh-kinds.r fresh-reads.Post
 fresh-determined κs a x y s t p q = fresh-exact x y (one-answer p q)
+
+pub in-good-order-determined : Determines 0 in-good-order-kinds.ps in-good-order-kinds.r in-good-order-reads.Post
+in-good-order-determined κs a x y s t = one-answer
+
+pub suits-determined : Determines 0 suits-kinds.ps suits-kinds.r suits-reads.Post
+suits-determined κs a x y s t = one-answer
+
+pub index-of-determined : Determines 0 index-of-kinds.ps index-of-kinds.r index-of-reads.Post
+index-of-determined κs a x y s t = one-answer
+
+tag-exact : (x y : Tag) → x .0 ≡ y .0 → x ≡ y
+tag-exact x y e = ap (λ (t : ℕ). record { 0 = t }) e
+
+pub of-buffer-determined : Determines 0 of-buffer-kinds.ps of-buffer-kinds.r of-buffer-reads.Post
+of-buffer-determined κs a x y s t p q = tag-exact x y (one-answer p q)
+
+pub of-station-determined : Determines 0 of-station-kinds.ps of-station-kinds.r of-station-reads.Post
+of-station-determined κs a x y s t p q = tag-exact x y (one-answer p q)

@@ -1,4 +1,4 @@
--- A machine is known by its view: two machines with one view are equal.
+-- A machine is known by its view: two machines with one view are equal, and every machine of crate order is a view.
 use mathlib.Core.Path.{_≡_, refl, sym, ap, _∙_}
 use mathlib.Core.List.{List, [], _∷_, map}
 use lib.Ieee.{Float}
@@ -17,40 +17,9 @@ use Rattle.held.specs.declared.parts.StoreState.{StoreState}
 use Rattle.held.specs.declared.parts.StoreState.the-variants as store
 use Rattle.held.specs.declared.parts.StoreBuffer.{StoreBuffer}
 use Rattle.held.specs.declared.parts.Machine.{Machine}
-use Rattle.held.specs.View.{viewOperand, viewRegister, viewBufferState, viewBuffer, viewStationState, viewStation, viewStoreState, viewStore, view}
-
--- WHAT A VIEW IS OF
-
-abbrev operandOf : order.Operand Float → Operand
-operandOf (num x) = Number x
-operandOf (tag t) = Waits (record { 0 = t })
-
-abbrev registerOf : order.Operand Float → Register
-registerOf o = record { operand = operandOf o }
-
-abbrev bufferOf : order.Buffer Float → Buffer
-bufferOf freeBuffer = record { state = buffer.Free }
-bufferOf (waiting p c) = record { state = buffer.Waiting (record { place = p; cell = c }) }
-bufferOf (full p v) = record { state = buffer.Full (record { place = p; number = v }) }
-
-abbrev stationOf : order.Station Float → Station
-stationOf freeStation = record { state = station.Free }
-stationOf (holding p o x y) =
-    record { state = station.Holding (record { place = p; operation = o; sink = operandOf x; source = operandOf y }) }
-stationOf (done p v) = record { state = station.Done (record { place = p; number = v }) }
-
-abbrev storeOf : order.StoreBuffer Float → StoreBuffer
-storeOf freeStore = record { state = store.Free }
-storeOf (live p c x) = record { state = store.Live (record { place = p; cell = c; operand = operandOf x }) }
-
-abbrev machineOf : order.Machine Float → Machine
-machineOf m = record {
-  next = m .next;
-  registers = map registerOf (m .registers);
-  buffers = map bufferOf (m .buffers);
-  stations = map stationOf (m .stations);
-  stores = map storeOf (m .stores);
-}
+use Rattle.held.specs.declared.parts.Record.{Record}
+use Rattle.held.specs.Back.{operandOf, registerOf, bufferOf, stationOf, storeOf, machineOf, recordOf}
+use Rattle.held.specs.View.{viewOperand, viewRegister, viewBufferState, viewBuffer, viewStationState, viewStation, viewStoreState, viewStore, view, viewRecord}
 
 -- THERE AND BACK
 
@@ -91,7 +60,7 @@ maps-back : {A B : Type 0} (f : A → B) (g : B → A) (h : (a : A) → g (f a) 
 maps-back f g h [] = refl
 maps-back f g h (a ∷ l) = λ i. h a i ∷ maps-back f g h l i
 
-back : (m : Machine) → machineOf (view m) ≡ m
+pub back : (m : Machine) → machineOf (view m) ≡ m
 back m = λ i.
     record {
       next = m .next;
@@ -103,3 +72,54 @@ back m = λ i.
 
 pub view-exact : (m n : Machine) → view m ≡ view n → m ≡ n
 view-exact m n e = sym (back m) ∙ ap machineOf e ∙ back n
+
+-- and so is each slot
+module _ {A B : Type 0} (f : A → B) (g : B → A) (h : (a : A) → g (f a) ≡ a) where
+  exact : (x y : A) → f x ≡ f y → x ≡ y
+  exact x y e = sym (h x) ∙ ap g e ∙ h y
+
+pub register-exact : (x y : Register) → viewRegister x ≡ viewRegister y → x ≡ y
+register-exact = exact viewRegister registerOf register-back
+
+pub buffer-exact : (x y : Buffer) → viewBuffer x ≡ viewBuffer y → x ≡ y
+buffer-exact = exact viewBuffer bufferOf buffer-back
+
+pub station-exact : (x y : Station) → viewStation x ≡ viewStation y → x ≡ y
+station-exact = exact viewStation stationOf station-back
+
+pub store-exact : (x y : StoreBuffer) → viewStore x ≡ viewStore y → x ≡ y
+store-exact = exact viewStore storeOf store-back
+
+-- so are the records of a log
+pub records-exact : (x y : List Record) → map viewRecord x ≡ map viewRecord y → x ≡ y
+records-exact x y e = sym (maps-back viewRecord recordOf (λ r. refl) x) ∙ ap (map recordOf) e ∙ maps-back viewRecord recordOf (λ r. refl) y
+
+-- BACK AND THERE
+
+operand-forth : (o : order.Operand Float) → viewOperand (operandOf o) ≡ o
+operand-forth (num x) = refl
+operand-forth (tag t) = refl
+
+buffer-forth : (b : order.Buffer Float) → viewBuffer (bufferOf b) ≡ b
+buffer-forth freeBuffer = refl
+buffer-forth (waiting p c) = refl
+buffer-forth (full p v) = refl
+
+station-forth : (s : order.Station Float) → viewStation (stationOf s) ≡ s
+station-forth freeStation = refl
+station-forth (holding p o x y) = λ i. holding p o (operand-forth x i) (operand-forth y i)
+station-forth (done p v) = refl
+
+store-forth : (s : order.StoreBuffer Float) → viewStore (storeOf s) ≡ s
+store-forth freeStore = refl
+store-forth (live p c x) = λ i. live p c (operand-forth x i)
+
+pub forth : (m : order.Machine Float) → view (machineOf m) ≡ m
+forth m = λ i.
+    record {
+      next = m .next;
+      registers = maps-back registerOf viewRegister operand-forth (m .registers) i;
+      buffers = maps-back bufferOf viewBuffer buffer-forth (m .buffers) i;
+      stations = maps-back stationOf viewStation station-forth (m .stations) i;
+      stores = maps-back storeOf viewStore store-forth (m .stores) i;
+    }

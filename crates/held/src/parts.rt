@@ -2,6 +2,8 @@
 use numbers::Operation;
 ghost use mathlib.Core.Path.{_≡_};
 ghost use Rattle.order.specs.Tags as order;
+ghost use Rattle.held.specs.TagOf.{tagOfBuffer, tagOfStation};
+ghost use Rattle.order.specs.Instruction.{indexOf};
 
 // A tag: a buffer's or a station's number.
 pub struct Tag(pub u8);
@@ -18,6 +20,29 @@ impl Tag {
     pub const LAST_STATION: u8 = 12;
 
     pub const LAST_ADDER: u8 = 12;
+
+    // "Seven is never used."
+    pub const UNUSED: u8 = 7;
+
+    // The tag of a buffer, by its index from 0; of no buffer, the unused one.
+    pub fn of_buffer(i: usize) -> Tag
+        ensures { λ r. ⌜ r .0 ≡ tagOfBuffer i ⌝ }
+    {
+        if i < 6 {
+            return Tag(Self::FIRST_BUFFER + i as u8);
+        }
+        Tag(Self::UNUSED)
+    }
+
+    // The tag of a station, by its index from 0; of no station, the unused one.
+    pub fn of_station(i: usize) -> Tag
+        ensures { λ r. ⌜ r .0 ≡ tagOfStation i ⌝ }
+    {
+        if i < 5 {
+            return Tag(Self::FIRST_STATION + i as u8);
+        }
+        Tag(Self::UNUSED)
+    }
 
     // "add stations hold only add and subtract, the other two only multiply and divide": by the station's index from 0.
     pub fn suits(index: usize, operation: Operation) -> bool
@@ -41,6 +66,15 @@ pub enum Operand {
 
 pub struct Register {
     pub operand: Operand,
+}
+
+impl Register {
+    // "Registers are 0, 2, 4, 6": a register's index from 0.
+    pub fn index_of(register: u32) -> usize
+        ensures { λ r. ⌜ r ≡ indexOf register ⌝ }
+    {
+        (register / 2) as usize
+    }
 }
 
 // A buffer that waits for its cell's number.

@@ -22,6 +22,10 @@ use Rattle.machine.proofs.lowest.lowest_step.Kinds as lowest-step-kinds
 use Rattle.machine.proofs.lowest.lowest_step.Reads as lowest-step-reads
 use Rattle.machine.proofs.step.step.Kinds as step-kinds
 use Rattle.machine.proofs.step.step.Reads as step-reads
+use Rattle.machine.proofs.advance.begun.Kinds as begun-kinds
+use Rattle.machine.proofs.advance.begun.Reads as begun-reads
+use Rattle.machine.proofs.advance.advance.Kinds as advance-kinds
+use Rattle.machine.proofs.advance.advance.Reads as advance-reads
 
 released-exact : (x y : Released) → viewReleased x ≡ viewReleased y → x ≡ y
 released-exact Nothing Nothing e = refl
@@ -56,3 +60,9 @@ pub step-determined : DeterminesLent 3 step-kinds.ps step-kinds.r step-reads.Pos
 step-determined κs a x y s t p q =
     let e : x ≡ y = stepped-exact x y (one-answer (p .answer) (q .answer)) in
     (e, p .after ∙ ap (λ (r : Stepped). written (now (a .1 .1 .1 .0)) (viewReleased (r .released))) e ∙ sym (q .after))
+
+pub begun-determined : Determines 2 begun-kinds.ps begun-kinds.r begun-reads.Post
+begun-determined κs a x y s t = one-answer
+
+pub advance-determined : DeterminesLent 4 advance-kinds.ps advance-kinds.r advance-reads.Post (λ κs s. now (s .1 .1 .1 .0))
+advance-determined κs a x y s t p q = (one-answer (p .0) (q .0), one-answer (p .1) (q .1))

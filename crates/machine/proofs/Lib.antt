@@ -1,9 +1,13 @@
+pub mod Advancing
+pub mod Arms
 pub mod Bridge
-pub mod Codes
+pub mod Changing
 pub mod Determined
 pub mod First
-pub mod Given
+pub mod Forwards
+pub mod Found
 pub mod Issued
-pub mod Search
-pub mod SlotSeen
+pub mod Moving
+pub mod Segments
 pub mod Stepping
+pub mod Takes

@@ -1,21 +1,78 @@
 -- One step, by what its two tests say.
 use mathlib.Core.Path.{_≡_, refl, sym, ap, _∙_}
 use mathlib.Core.Bool.{true, false}
-use mathlib.Core.List.{List}
+use mathlib.Core.List.{List, [], _∷_}
+use mathlib.Core.Option.{Option, none, some}
+use native.Mathlib.Omega.{arith}
 use Prim.Native.Nat.{ℕ, _≤_, _<_}
 use lib.Ieee.{Float}
 use lib.ListN.{length}
-use borrow.Author.Tests.{lt-ltb, le-ltb}
+use borrow.Author.Tests.{lt-ltb, le-ltb, lt-leb, ne-eqb}
+use Rattle.files.specs.SevenBits.{accepted, numberIn, numberAt}
+use Rattle.order.specs.Machine as order
+use Rattle.order.specs.Machine.{Lent, Released}
+use Rattle.order.proofs.Rows.{above}
+use Rattle.order.proofs.Tags.{firstArrival, lastArrival, firstCompletion, lastCompletion, firstBufferGrant, lastBufferGrant, firstStationGrant, lastStationGrant, firstRelease, lastRelease}
+use Rattle.order.proofs.Moves.{Reply, leaves, does, of-perform}
+use Rattle.machine.specs.Taking.{Taken, viewTaken, afterStep, takeFrom}
+use Rattle.machine.specs.declared.taking.Taken as declared
 use Rattle.order.specs.Issue.{Answer}
 use Rattle.order.specs.Binary64.{binary64}
 use Rattle.order.specs.GoodOrder.{goodOrder}
-use Rattle.order.specs.Steps.{perform, step}
+use Rattle.order.specs.Steps.{unknownCode, stepOf, perform, step}
 use Rattle.order.specs.Asked.{written}
 use Rattle.held.specs.declared.parts.Machine.{Machine}
 use Rattle.held.specs.declared.parts.Released.the-variants.{Nothing}
 use Rattle.held.specs.declared.parts.Stepped.{Stepped}
 use Rattle.held.specs.View.{view, viewReleased, viewStepped, lent}
 use Rattle.machine.specs.Step.{StepAnswer}
+
+no-code : (code : ℕ) → 127 < code → stepOf code ≡ unknownCode
+unfolding stepOf
+no-code code h =
+    rw (
+      ne-eqb code 0 (λ z. omega arith),
+      above firstArrival lastArrival code (omega arith),
+      above firstCompletion lastCompletion code (omega arith),
+      above firstBufferGrant lastBufferGrant code (omega arith),
+      above firstStationGrant lastStationGrant code (omega arith),
+      above firstRelease lastRelease code (omega arith),
+    )
+
+-- THE ONE BYTE OF A STEP, as a schedule
+module _ (L : Lent Float) (m : order.Machine Float) (code : ℕ) where
+  one-number : code < 128 → numberAt (code ∷ []) 0 ≡ accepted code 1
+  unfolding numberAt numberIn
+  one-number h = rw (lt-leb 128 code h, le-ltb 65535 code (omega arith))
+
+  -- what taking it comes to is the step's answer
+  pub record OneStep (t : Taken) (a : Answer Float) : Type 0 where
+    pub machine : t .machine ≡ a .machine
+    pub refusal : t .refusal ≡ a .refusal
+    pub released : t .released ≡ a .released
+
+  by-answer : (a : Answer Float) → Reply binary64 L m a → OneStep (afterStep L true (code ∷ []) m 0 0 1 a (λ n. takeFrom L true (code ∷ []) 0 n 1 1)) a
+  unfolding takeFrom
+  by-answer a (leaves h p q) = rw (ne-eqb (a .refusal) 0 h) (record { machine = sym p; refusal = refl; released = sym q })
+  by-answer a (does v e p q) = go (a .released) refl
+    where
+      go : (r : Option (Released Float)) → a .released ≡ r
+          → OneStep (afterStep L true (code ∷ []) m 0 0 1 a (λ n. takeFrom L true (code ∷ []) 0 n 1 1)) a
+      go none z = rw (e, z) (record { machine = refl; refusal = refl; released = refl })
+      go (some r) z = rw (e, z) (record { machine = refl; refusal = refl; released = refl })
+
+  pub one-step : code < 128 → OneStep (takeFrom L true (code ∷ []) 1 m 0 0) (perform binary64 L m code)
+  unfolding takeFrom
+  one-step h = rw (one-number h) (by-answer (perform binary64 L m code) (of-perform binary64 L m code))
+
+  pub stepped-is : (t : declared.Taken) → viewTaken t ≡ takeFrom L true (code ∷ []) 1 m 0 0 → code < 128
+      → viewStepped (record { machine = t .machine; refusal = t .refusal; released = t .released }) ≡ perform binary64 L m code
+  stepped-is t e h =
+      let o = one-step h in
+      let machines = ap (λ (t : Taken). t .machine) e ∙ o .machine in
+      let refusals = ap (λ (t : Taken). t .refusal) e ∙ o .refusal in
+      let releases = ap (λ (t : Taken). t .released) e ∙ o .released in
+      λ i. record { refusal = refusals i; machine = machines i; released = releases i }
 
 module _ (words : List ℕ) (operands : List Float) (m : Machine) (cells : List Float) (code : ℕ) where
   abbrev unchanged : ℕ → Stepped
@@ -41,3 +98,9 @@ module _ (words : List ℕ) (operands : List Float) (m : Machine) (cells : List 
         → StepAnswer words operands m cells code r cells′
     unfolding step
     performed o e w = record { answer = e ∙ rw (le-ltb 4096 (length words) short, o); after = w }
+
+    -- a code beyond one byte
+    pub unknown : goodOrder binary64 (length words) (length operands) (length cells) (view m) ≡ true → 127 < code → {r : Stepped} → r ≡ unchanged 5
+        → StepAnswer words operands m cells code r cells
+    unfolding step perform
+    unknown o h e = refused-answer 5 e (rw (le-ltb 4096 (length words) short, o, no-code code h))

@@ -1,5 +1,5 @@
 // The lowest permitted step.
-use crate::perform::perform;
+use crate::taking::taking;
 use held::good_order::in_good_order;
 use held::parts::Machine;
 use words::refusal;
@@ -29,8 +29,9 @@ fn lowest_permitted(m: Machine, words: &[u32], operands: &[f64], results: usize)
 {
     let mut code = 0;
     while code < CODE_LIMIT {
-        let stepped = perform(m, words, operands, results, code);
-        if stepped.refusal == 0 {
+        let schedule: [u8; 1] = [code as u8];
+        let taken = taking(m, words, operands, results, &schedule, 0, 0, true);
+        if taken.refusal == 0 {
             return Lowest::Code(code);
         }
         code += 1;

@@ -189,7 +189,7 @@ module _ (K : Kind) (L : Lent (K .Num)) where
     of-step (stationGrant i) h = of-station-grant i h (stationAt m i) refl
     of-step (release i) h = of-release i h (storeAt m i) refl
 
-    of-perform : (code : ℕ) → Reply m (perform K L m code)
+    pub of-perform : (code : ℕ) → Reply m (perform K L m code)
     unfolding perform
     of-perform code = of-step (stepOf code) (in-range code)
 

@@ -13,14 +13,14 @@ use Rattle.order.specs.Tags.{bufferTag, stationTag}
 use Rattle.order.specs.Instruction.{Instruction, noInstruction, load, store, copy, cellArithmetic, registerArithmetic}
 use Rattle.order.specs.Machine.{Kind, Lent, StoreBuffer, freeStore, live, Machine, Shape, registerAt, storeCell}
 use Rattle.order.specs.GoodOrder.{Giver, nobody, fromBuffer, fromStation, before}
-use Rattle.order.specs.Issue.{instructionAt}
-use Rattle.order.specs.Steps.{giveStore, inOrder}
+use Rattle.order.specs.Issue.{Answer, instructionAt}
+use Rattle.order.specs.Steps.{giveStore, perform, inOrder}
 use Rattle.order.specs.Statement.{GoodOrderKept}
 use Rattle.order.proofs.Rows.{set-all}
 use Rattle.order.proofs.Words.{WellFormed}
 use Rattle.order.proofs.Holds.{Holder, register, sink, source, stored, Laws, Inv, arrival-keeps, completion-keeps, buffer-grant-keeps, station-grant-keeps, release-keeps}
 use Rattle.order.proofs.Issue.{no-store, Room, issued, Enough, Widens, Issues, issue-keeps}
-use Rattle.order.proofs.Moves.{Move, issuing, arriving, completing, grantingBuffer, grantingStation, releasing, moved, step-view}
+use Rattle.order.proofs.Moves.{Reply, leaves, does, of-perform, Move, issuing, arriving, completing, grantingBuffer, grantingStation, releasing, moved, step-view}
 use Rattle.order.proofs.GoodOrder.{Distinct, seat, orderly, Good, good-of, of-good}
 
 module _ (K : Kind) (L : Lent (K .Num)) where
@@ -171,6 +171,14 @@ module _ (K : Kind) (L : Lent (K .Num)) where
     inv = release-keeps K L (orderly K L (m .next)) (laws (m .next)) m (g .inv) i;
     distinct = distinct-set (m .stores) i freeStore (g .distinct) (λ d q. absurd (let z : _≡_ {A = ℕ} 0 1 = cc in omega arith));
   }
+
+  -- a step has rows as long as before, whatever it answers
+  pub shape-performed : (m : Machine (K .Num)) → Shape m → (code : ℕ) → Shape (perform K L m code .machine)
+  shape-performed m S code = go (of-perform K L m code)
+    where
+      go : {a : Answer (K .Num)} → Reply K L m a → Shape (a .machine)
+      go (leaves h p q) = rw p S
+      go (does v e p q) = rw p at (shape-moved m S v)
 
   -- THEOREM: good order is kept by every accepted step
   pub good-order-kept : GoodOrderKept K L

@@ -1,19 +1,22 @@
 use mathlib.Core.Path.{_≡_, refl, sym, ap, _∙_}
-use mathlib.Core.Bool.{Bool}
-use mathlib.Core.List.{List}
-use Prim.Native.Nat.{ℕ, _-_}
+use mathlib.Core.Bool.{Bool, true}
+use mathlib.Core.List.{List, [], _∷_}
+use Prim.Native.Nat.{ℕ, _-_, _<_}
+use native.Mathlib.Omega.{arith}
 use borrow.Author.Needs.{needs}
 use borrow.Author.Tests.{eq-eqb, ne-eqb}
 use lib.Dec.{eqb}
 use lib.Ieee.{Float}
 use Rattle.order.specs.Rows.{first}
-use Rattle.order.specs.Issue.{Answer, isTaken}
+use Rattle.order.specs.Issue.{isTaken}
 use Rattle.order.specs.Binary64.{binary64}
 use Rattle.order.specs.Steps.{perform}
 use Rattle.order.specs.Entries.{lowestPermitted}
 use Rattle.held.specs.declared.parts.Machine.{Machine}
-use Rattle.held.specs.declared.parts.Stepped.{Stepped}
-use Rattle.held.specs.View.{view, viewStepped}
+use Rattle.held.specs.View.{view}
+use Rattle.machine.specs.Taking.{Taken, viewTaken, takeFrom}
+use Rattle.machine.specs.declared.taking.Taken as declared
+use Rattle.machine.proofs.Stepping.{one-step}
 use Rattle.machine.specs.Inside.{lentTo}
 use Rattle.machine.proofs.First.{Searching, searching-none, searching-more, searching-found, searching-all}
 use Rattle.machine.proofs.lowest.lowest_permitted.Statement.{statement}
@@ -28,10 +31,11 @@ lowest-is : (m : Machine) (words : List ℕ) (operands : List Float) (results : 
 unfolding lowestPermitted
 lowest-is m words operands results = refl
 
--- the step's refusal says it
-permitted : (s : Stepped) (m : Machine) (words : List ℕ) (operands : List Float) (results code : ℕ)
-    → viewStepped s ≡ perform binary64 (lentTo words operands results) (view m) code → eqb (s .refusal) 0 ≡ permits m words operands results code
-permitted s m words operands results code e = ap (λ (a : Answer Float). isTaken a) e
+-- the refusal of its one byte says it
+permitted : (t : declared.Taken) (m : Machine) (words : List ℕ) (operands : List Float) (results code : ℕ) → code < 128
+    → viewTaken t ≡ takeFrom (lentTo words operands results) true (code ∷ []) 1 (view m) 0 0 → eqb (t .refusal) 0 ≡ permits m words operands results code
+permitted t m words operands results code h e =
+    ap (λ (n : ℕ). eqb n 0) (ap (λ (t : Taken). t .refusal) e ∙ one-step (lentTo words operands results) (view m) code h .refusal)
 
 abbrev Inv-loop : tie.InvT-loop
 Inv-loop m words operands results code₀ code = Searching (permits m words operands results) 80 code
@@ -42,18 +46,24 @@ abbrev μ-loop : tie.MeasureT-loop
 loop-holds : tie.Need-loop-holds Inv-loop μ-loop
 loop-holds c = searching-none _ 80
 
-perform-requires : tie.Need-perform-requires Inv-loop μ-loop
-perform-requires c κs = search needs
+cast-t9 : tie.Need-cast-t9 Inv-loop μ-loop
+cast-t9 c = search needs
+
+slice-aggregate-taking : tie.Need-slice-aggregate-taking Inv-loop μ-loop
+slice-aggregate-taking c = search needs
+
+taking-requires : tie.Need-taking-requires Inv-loop μ-loop
+taking-requires c κs = search needs
 
 returns : tie.Need-returns Inv-loop μ-loop
 returns c =
     let k = c .before .before in
-    let l = k .before .before in
+    let l = k .before .before .before in
     let a = l .before .before .before .args in
     sym
     (lowest-is (a .m) (a .words .now) (a .operands .now) (a .results)
-    ∙ searching-found _ (l .loop .inv) (k .before .loop-test .taken)
-    (sym (permitted (k .perform .result) (a .m) (a .words .now) (a .operands .now) (a .results) (l .loop .code) (k .perform .ensures)) ∙ eq-eqb _ 0 (c .if1 .taken)))
+    ∙ searching-found _ (l .loop .inv) (k .before .before .loop-test .taken)
+    (sym (permitted (k .taking .result) (a .m) (a .words .now) (a .operands .now) (a .results) (l .loop .code) (omega (arith, k .before .before .loop-test .taken)) (k .taking .ensures)) ∙ eq-eqb _ 0 (c .if1 .taken)))
 
 add-code : tie.Need-add-code Inv-loop μ-loop
 add-code c = search needs
@@ -64,10 +74,10 @@ loop-less c = search needs
 loop-again : tie.Need-loop-again Inv-loop μ-loop
 loop-again c =
     let k = c .before .before in
-    let l = k .before .before in
+    let l = k .before .before .before in
     let a = l .before .before .before .args in
-    searching-more _ (l .loop .inv) (k .before .loop-test .taken)
-    (sym (permitted (k .perform .result) (a .m) (a .words .now) (a .operands .now) (a .results) (l .loop .code) (k .perform .ensures)) ∙ ne-eqb _ 0 (c .if1 .left))
+    searching-more _ (l .loop .inv) (k .before .before .loop-test .taken)
+    (sym (permitted (k .taking .result) (a .m) (a .words .now) (a .operands .now) (a .results) (l .loop .code) (omega (arith, k .before .before .loop-test .taken)) (k .taking .ensures)) ∙ ne-eqb _ 0 (c .if1 .left))
 
 returns-2 : tie.Need-returns-2 Inv-loop μ-loop
 returns-2 c =
@@ -81,7 +91,9 @@ lowest-permitted-spec =
     Inv-loop
     μ-loop
     loop-holds
-    perform-requires
+    cast-t9
+    slice-aggregate-taking
+    taking-requires
     returns
     add-code
     loop-less
