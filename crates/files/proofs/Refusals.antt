@@ -52,7 +52,7 @@ limited-broken : (g : Groups) → Broken g → Broken (limited g)
 limited-broken (whole value size) h = either (ltb 65535 value) (broken 9) (whole value size) nine tt
 limited-broken (broken refusal) h = h
 
-number-real : (bytes : List ℕ) (at : ℕ) → Real (numberAt bytes at)
+pub number-real : (bytes : List ℕ) (at : ℕ) → Real (numberAt bytes at)
 unfolding numberAt numberIn
 number-real bytes at = go (limited (groups (drop at bytes))) (limited-broken (groups (drop at bytes)) (groups-broken (drop at bytes)))
   where

@@ -1,7 +1,10 @@
 pub mod Numbers
+pub mod Scheduled
 pub mod Session
 pub mod Sessions
+pub mod Runs
 pub mod ShortCuts
 pub mod Operations
 pub mod Files
+pub mod Reports
 pub mod Table

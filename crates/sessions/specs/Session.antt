@@ -1,4 +1,4 @@
--- A row of the table: what is done, and what must come out. `found` computes it from the definitions of crates order, files and words.
+-- A row of the table: what is done, and what must come out. `found` computes it from the definitions of crates order, files, words and texts.
 use mathlib.Core.Bool.{Bool, true}
 use mathlib.Core.Option.{Option, none}
 use mathlib.Core.List.{List, [], _∷_, map}
@@ -17,7 +17,9 @@ use Rattle.order.specs.Entries.{fresh, oneAtATime, stepsLeft, lowestStep}
 use Rattle.order.specs.Asked.{State, ask, begin}
 use Rattle.order.specs.Binary64.{binary64}
 use Rattle.order.specs.GivenMachines.{Row as GivenRow, IssueRow, ofWord}
+use Rattle.texts.specs.Report.{reportText}
 use Rattle.sessions.specs.Numbers.{n1·5}
+use Rattle.sessions.specs.Scheduled.{Scheduled, RanSeen, ranSeen}
 
 -- A SESSION: the list, the operand cells, the four start numbers, the result cells at the start, and the codes asked for
 pub record Session : Type 0 where
@@ -85,6 +87,8 @@ seen x =
 pub data Row : Type 0 where
   -- a session
   session : Session → Seen → Row
+  -- the run of a schedule
+  ran : Scheduled → RanSeen → Row
   -- one step of a given machine: its refusal
   given : GivenRow Float → Row
   -- an issue into a given machine: the machine after it
@@ -95,14 +99,18 @@ pub data Row : Type 0 where
   -- a list file read, with room for eight words: refusal, place, the words; and written, with room for sixteen bytes: the bytes
   read : (file : List ℕ) (refusal place : ℕ) (words : List ℕ) → Row
   written : (words file : List ℕ) → Row
+  -- a report of three files, `none` where one is missing: its text
+  printed : (list operands schedule : Option (List ℕ)) (text : List ℕ) → Row
 
 pub data Result : Type 0 where
   ofSession : Seen → Result
+  ofRun : RanSeen → Result
   ofStep : (refusal : ℕ) → Result
   ofIssue : Answer Float → Result
   ofCheck : (refusal place : ℕ) → Result
   ofRead : (count refusal place : ℕ) → (words : List ℕ) → Result
   ofWrite : (length refusal : ℕ) → (file : List ℕ) → Result
+  ofReport : (text : List ℕ) → Result
 
 abbrev room : List ℕ
 room = replicate 8 0
@@ -113,6 +121,7 @@ space = replicate 16 0
 -- what the definitions give
 abbrev pub found : Row → Result
 found (session x e) = ofSession (seen x)
+found (ran x e) = ofRun (ranSeen x)
 found (given r) = ofStep (step binary64 (r .lent) (r .machine) (r .code) .refusal)
 found (issued r) = ofIssue (step binary64 (ofWord binary64 n1·5 (r .word)) (r .machine) 0)
 found (checked operands results words n p) = let c = listCheck operands results words in ofCheck (c .refusal) (c .place)
@@ -121,13 +130,16 @@ found (read file n p words) =
     let r = readAnswer file room in ofRead (r .count) (r .refusal) (r .place) (take (r .count) (readWords file room))
 found (written words file) =
     let w = writeAnswer words space in ofWrite (w .length) (w .refusal) (take (w .length) (writeBytes words space))
+found (printed list operands schedule text) = ofReport (reportText list operands schedule)
 
 -- what must come out
 abbrev pub wanted : Row → Result
 wanted (session x e) = ofSession e
+wanted (ran x e) = ofRun e
 wanted (given r) = ofStep (r .refusal)
 wanted (issued r) = ofIssue (taken (r .after))
 wanted (checked operands results words n p) = ofCheck n p
 wanted (checkedAlone words n p) = ofCheck n p
 wanted (read file n p words) = ofRead (length words) n p words
 wanted (written words file) = ofWrite (length file) 0 file
+wanted (printed list operands schedule text) = ofReport text

@@ -1,0 +1,9 @@
+pub mod Putting
+pub mod Decimals
+pub mod Rows
+pub mod Joining
+pub mod FileFaults
+pub mod Beginning
+pub mod Stages
+pub mod Told
+pub mod Determined

@@ -1,0 +1,41 @@
+use borrow.Author.Tests.{not-true, not-false}
+use Rattle.pages.proofs.Beginning.{list-missing, list-long, list-refused, list-taken}
+use borrow.Author.Needs.{needs}
+use Rattle.pages.proofs.begin.read_list.Statement.{statement}
+use Rattle.pages.proofs.begin.read_list.Tie as tie
+
+returns : tie.Need-returns
+returns c =
+    let a = c .before .before .before .args in
+    list-missing (a .bytes .now) (a .found) (a .words .now) (not-true _ (c .if1 .taken))
+
+returns-2 : tie.Need-returns-2
+returns-2 c =
+    let a = c .before .before .before .before .args in
+    list-long (a .bytes .now) (a .found) (a .words .now) (not-false _ (c .before .if1 .left)) (c .if2 .taken)
+
+read-requires : tie.Need-read-requires
+read-requires c κs = search needs
+
+same-length : tie.Need-same-length
+same-length c = search needs
+
+returns-3 : tie.Need-returns-3
+returns-3 c =
+    let a = c .before .before .before .before .before .before .before .before .before .before .args in
+    let l = c .before .before .before .before .read in
+    list-refused (a .bytes .now) (a .found) (l .last .1 .0) (not-false _ (c .before .before .before .before .before .before .before .if1 .left)) (c .before .before .before .before .before .before .if2 .left) (a .words .now) (c .before .before .before .before .before .before .before .before .before .before .pre) (l .result) (l .ensures .0) (c .if3 .taken)
+
+same-length-2 : tie.Need-same-length-2
+same-length-2 c = search needs
+
+returns-4 : tie.Need-returns-4
+returns-4 c =
+    let a = c .before .before .before .before .before .before .before .before .before .before .args in
+    let l = c .before .before .before .before .read in
+    list-taken (a .bytes .now) (a .found) (l .last .1 .0) (not-false _ (c .before .before .before .before .before .before .before .if1 .left)) (c .before .before .before .before .before .before .if2 .left) (a .words .now) (c .before .before .before .before .before .before .before .before .before .before .pre) (l .result) (l .ensures .0) (c .if3 .left) (l .ensures .1)
+
+pub read-list-spec : {M : Type 1} → statement M
+read-list-spec =
+    tie.close
+    (tie.spec returns returns-2 read-requires same-length returns-3 same-length-2 returns-4)

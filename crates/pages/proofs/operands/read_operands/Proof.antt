@@ -1,0 +1,66 @@
+use mathlib.Core.Path.{sym}
+use Prim.Native.Nat.{_-_, _/_}
+use lib.ListN.{length}
+use borrow.Author.Needs.{needs}
+use Rattle.pages.proofs.Joining.{Laying, laying-none, laying-more, laying-all, length-numbers}
+use Rattle.pages.proofs.operands.read_operands.Statement.{statement}
+use Rattle.pages.proofs.operands.read_operands.Tie as tie
+
+abbrev Inv-loop : tie.InvT-loop
+Inv-loop bytes cells₀ count i₀ cells i = Laying bytes cells₀ count cells i
+
+abbrev μ-loop : tie.MeasureT-loop
+μ-loop bytes cells₀ count i₀ cells i = count - i
+
+loop-holds : tie.Need-loop-holds Inv-loop μ-loop
+loop-holds c = laying-none _ _ _
+
+mul-pattern-at : tie.Need-mul-pattern-at Inv-loop μ-loop
+mul-pattern-at c = search needs
+
+pattern-at-requires : tie.Need-pattern-at-requires Inv-loop μ-loop
+pattern-at-requires c κs = search needs
+
+number-of-requires : tie.Need-number-of-requires Inv-loop μ-loop
+number-of-requires c κs = search needs
+
+mul-cells : tie.Need-mul-cells Inv-loop μ-loop
+mul-cells c = search needs
+
+slice-write-cells : tie.Need-slice-write-cells Inv-loop μ-loop
+slice-write-cells c = search needs
+
+add-i : tie.Need-add-i Inv-loop μ-loop
+add-i c = search needs
+
+loop-less : tie.Need-loop-less Inv-loop μ-loop
+loop-less c = search needs
+
+loop-again : tie.Need-loop-again Inv-loop μ-loop
+loop-again c = rw (c .number-of .ensures, c .before .pattern-at .ensures) (laying-more (c .before .before .before .loop .inv) (c .before .before .loop-test .taken))
+
+same-length : tie.Need-same-length Inv-loop μ-loop
+same-length c = search needs
+
+returns : tie.Need-returns Inv-loop μ-loop
+returns c =
+    let bytes = c .before .before .before .before .args .bytes .now in
+    (sym (length-numbers (length bytes / 8) bytes 0), laying-all (c .before .loop .inv) (c .loop-test .left))
+
+pub read-operands-spec : {M : Type 1} → statement M
+read-operands-spec =
+    tie.close
+    (tie.spec
+    Inv-loop
+    μ-loop
+    loop-holds
+    mul-pattern-at
+    pattern-at-requires
+    number-of-requires
+    mul-cells
+    slice-write-cells
+    add-i
+    loop-less
+    loop-again
+    same-length
+    returns)

@@ -1,0 +1,83 @@
+use mathlib.Core.Path.{sym, _∙_}
+use native.Mathlib.Omega.{arith}
+use lib.Seq.{length-take-le}
+use Rattle.pages.proofs.Beginning.{no-fault}
+use Rattle.pages.proofs.Stages.{stop-text, run-text}
+use Rattle.pages.proofs.Putting.{printed-none, printed-put}
+use borrow.Author.Needs.{needs}
+use Rattle.pages.proofs.report.report.Statement.{statement}
+use Rattle.pages.proofs.report.report.Tie as tie
+
+returns : tie.Need-returns
+returns c = printed-none _ (c .if1 .taken)
+
+slice-aggregate-begin : tie.Need-slice-aggregate-begin
+slice-aggregate-begin c = search needs
+
+slice-aggregate-begin-2 : tie.Need-slice-aggregate-begin-2
+slice-aggregate-begin-2 c = search needs
+
+begin-requires : tie.Need-begin-requires
+begin-requires c κs = search needs
+
+stops-requires : tie.Need-stops-requires
+stops-requires c κs = search needs
+
+put-stop-requires : tie.Need-put-stop-requires
+put-stop-requires c κs = search needs
+
+same-length : tie.Need-same-length
+same-length c = search needs
+
+returns-2 : tie.Need-returns-2
+returns-2 c =
+    let a = c .before .before .before .before .before .before .before .before .before .before .before .before .before .before .before .before .args in
+    rw (stop-text (a .named) (a .list .now) (a .operands .now) (a .schedule .now) (c .before .before .before .before .before .before .before .before .begin .ensures) (sym (c .before .before .before .before .before .stops .ensures) ∙ c .before .before .before .before .if2 .taken)) (printed-put (c .before .before .before .before .before .before .before .before .before .before .before .if1 .left) (c .before .before .put-stop .ensures))
+
+array-share-prefix-words : tie.Need-array-share-prefix-words
+array-share-prefix-words c = search needs
+
+slice-aggregate-ran : tie.Need-slice-aggregate-ran
+slice-aggregate-ran c =
+    let r = c .before .before .before .before .before .before .begin in
+    sym (length-take-le (r .result .words) (r .last .1 .1 .1 .1 .0) (omega (arith, r .ensures .fewWords, r .kept .1 .1 .1 .1 .0)))
+
+array-share-prefix-cells : tie.Need-array-share-prefix-cells
+array-share-prefix-cells c = search needs
+
+slice-aggregate-ran-2 : tie.Need-slice-aggregate-ran-2
+slice-aggregate-ran-2 c =
+    let r = c .before .before .before .before .before .before .before .begin in
+    sym (length-take-le (r .result .operands) (r .last .1 .1 .1 .1 .1 .0) (omega (arith, r .ensures .fewNumbers, r .kept .1 .1 .1 .1 .1 .0)))
+
+ran-requires : tie.Need-ran-requires
+ran-requires c κs = c .before .before .before .before .before .before .before .before .before .before .if1 .left
+
+same-length-2 : tie.Need-same-length-2
+same-length-2 c = search needs
+
+returns-3 : tie.Need-returns-3
+returns-3 c =
+    let a = c .before .before .before .before .before .before .before .before .before .before .before .before .before .before .before .before .before .before .args in
+    let r = c .before .before .before .before .before .before .before .before .before .before .begin in
+    rw (run-text (a .named) (a .list .now) (a .operands .now) (a .schedule .now) (r .ensures) (no-fault (r .result .fault) (sym (c .before .before .before .before .before .before .before .stops .ensures) ∙ c .before .before .before .before .before .before .if2 .left))) (printed-put (c .before .before .before .before .before .before .before .before .before .before .before .before .before .if1 .left) (c .before .before .ran .ensures))
+
+pub report-spec : {M : Type 1} → statement M
+report-spec =
+    tie.close
+    (tie.spec
+    returns
+    slice-aggregate-begin
+    slice-aggregate-begin-2
+    begin-requires
+    stops-requires
+    put-stop-requires
+    same-length
+    returns-2
+    array-share-prefix-words
+    slice-aggregate-ran
+    array-share-prefix-cells
+    slice-aggregate-ran-2
+    ran-requires
+    same-length-2
+    returns-3)

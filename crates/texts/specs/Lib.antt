@@ -1,0 +1,5 @@
+pub mod Ascii
+pub mod Text
+pub mod Words
+pub mod Operands
+pub mod Report
