@@ -23,15 +23,6 @@ returns c = rw (lt-ltb _ _ (c .if1 .taken))
 loop-holds : tie.Need-loop-holds Inv-loop μ-loop
 loop-holds c = (omega arith, refl)
 
-mul-word-refusal : tie.Need-mul-word-refusal Inv-loop μ-loop
-mul-word-refusal c = search needs
-
-shared-slice-read-word-refusal : tie.Need-shared-slice-read-word-refusal Inv-loop μ-loop
-shared-slice-read-word-refusal c = search needs
-
-word-refusal-requires : tie.Need-word-refusal-requires Inv-loop μ-loop
-word-refusal-requires c κs = search needs
-
 returns-2 : tie.Need-returns-2 Inv-loop μ-loop
 unfolding listCheck
 returns-2 c =
@@ -39,12 +30,6 @@ returns-2 c =
     let l = w .before .before .before in
     rw (le-ltb _ _ (l .before .if1 .left), w .word-refusal .ensures)
     (sym (l .loop .inv .1 ∙ bad-here _ _ _ _ (w .before .before .loop-test .taken) (rw (w .word-refusal .ensures) at (c .if2 .taken))))
-
-add-place : tie.Need-add-place Inv-loop μ-loop
-add-place c = search needs
-
-loop-less : tie.Need-loop-less Inv-loop μ-loop
-loop-less c = search needs
 
 loop-again : tie.Need-loop-again Inv-loop μ-loop
 loop-again c =
@@ -68,11 +53,11 @@ check-list-against-spec =
     μ-loop
     returns
     loop-holds
-    mul-word-refusal
-    shared-slice-read-word-refusal
-    word-refusal-requires
+    (λ c. search needs)
+    (λ c. search needs)
+    (λ c κs. search needs)
     returns-2
-    add-place
-    loop-less
+    (λ c. search needs)
+    (λ c. search needs)
     loop-again
     returns-3)

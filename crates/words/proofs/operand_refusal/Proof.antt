@@ -2,42 +2,6 @@ use borrow.Author.Needs.{needs}
 use Rattle.words.proofs.operand_refusal.Statement.{statement}
 use Rattle.words.proofs.operand_refusal.Tie as tie
 
-enum-told : tie.Need-enum-told
-enum-told c = search needs
-
-enum-told-2 : tie.Need-enum-told-2
-enum-told-2 c = search needs
-
-cell-refusal-requires : tie.Need-cell-refusal-requires
-cell-refusal-requires c κs = search needs
-
-enum-told-3 : tie.Need-enum-told-3
-enum-told-3 c = search needs
-
-register-refusal-requires : tie.Need-register-refusal-requires
-register-refusal-requires c κs = search needs
-
-enum-told-4 : tie.Need-enum-told-4
-enum-told-4 c = search needs
-
-cell-refusal-requires-2 : tie.Need-cell-refusal-requires-2
-cell-refusal-requires-2 c κs = search needs
-
-enum-told-5 : tie.Need-enum-told-5
-enum-told-5 c = search needs
-
-register-refusal-requires-2 : tie.Need-register-refusal-requires-2
-register-refusal-requires-2 c κs = search needs
-
-enum-told-6 : tie.Need-enum-told-6
-enum-told-6 c = search needs
-
-cell-refusal-requires-3 : tie.Need-cell-refusal-requires-3
-cell-refusal-requires-3 c κs = search needs
-
-returns : tie.Need-returns
-returns c = search needs
-
 returns-2 : tie.Need-returns-2
 returns-2 c = rw (c .before .enum-told2 .given .1) (c .cell-refusal .ensures)
 
@@ -57,18 +21,18 @@ pub operand-refusal-spec : {M : Type 1} → statement M
 operand-refusal-spec =
     tie.close
     (tie.spec
-    enum-told
-    enum-told-2
-    cell-refusal-requires
-    enum-told-3
-    register-refusal-requires
-    enum-told-4
-    cell-refusal-requires-2
-    enum-told-5
-    register-refusal-requires-2
-    enum-told-6
-    cell-refusal-requires-3
-    returns
+    (λ c. search needs)
+    (λ c. search needs)
+    (λ c κs. search needs)
+    (λ c. search needs)
+    (λ c κs. search needs)
+    (λ c. search needs)
+    (λ c κs. search needs)
+    (λ c. search needs)
+    (λ c κs. search needs)
+    (λ c. search needs)
+    (λ c κs. search needs)
+    (λ c. search needs)
     returns-2
     returns-3
     returns-4

@@ -21,21 +21,9 @@ by-operand : (c : tie.After-operand-refusal)
     c .operand-refusal .result ≡ operandRefusal (a .operands) (a .results) (formOf (operationField (a .word))) (operandField (a .word))
 by-operand c = cc
 
-operation-of-requires : tie.Need-operation-of-requires
-operation-of-requires c κs = search needs
-
-operation-refusal-requires : tie.Need-operation-refusal-requires
-operation-refusal-requires c κs = search needs
-
 returns : tie.Need-returns
 unfolding wordRefusal
 returns c = rw (← by-operation (c .before), ne-eqb _ 0 (c .if1 .taken))
-
-r1-of-requires : tie.Need-r1-of-requires
-r1-of-requires c κs = search needs
-
-register-refusal-requires : tie.Need-register-refusal-requires
-register-refusal-requires c κs = search needs
 
 returns-2 : tie.Need-returns-2
 unfolding wordRefusal
@@ -46,15 +34,6 @@ returns-2 c =
       ← by-register (c .before),
       ne-eqb _ 0 (c .if2 .taken),
     )
-
-form-of-requires : tie.Need-form-of-requires
-form-of-requires c κs = search needs
-
-operand-of-requires : tie.Need-operand-of-requires
-operand-of-requires c κs = search needs
-
-operand-refusal-requires : tie.Need-operand-refusal-requires
-operand-refusal-requires c κs = search needs
 
 returns-3 : tie.Need-returns-3
 unfolding wordRefusal
@@ -72,13 +51,13 @@ pub word-refusal-spec : {M : Type 1} → statement M
 word-refusal-spec =
     tie.close
     (tie.spec
-    operation-of-requires
-    operation-refusal-requires
+    (λ c κs. search needs)
+    (λ c κs. search needs)
     returns
-    r1-of-requires
-    register-refusal-requires
+    (λ c κs. search needs)
+    (λ c κs. search needs)
     returns-2
-    form-of-requires
-    operand-of-requires
-    operand-refusal-requires
+    (λ c κs. search needs)
+    (λ c κs. search needs)
+    (λ c κs. search needs)
     returns-3)

@@ -22,32 +22,8 @@ read c form e =
     decoded _ _ _ form (f .before .before .before .before .pre .0) (f .before .operation-of .ensures) (f .form-of .ensures) e
     (c .before .before .r1-of .ensures) (c .operand-of .ensures)
 
-operation-of-requires : tie.Need-operation-of-requires
-operation-of-requires c κs = search needs
-
-form-of-requires : tie.Need-form-of-requires
-form-of-requires c κs = search needs
-
-r1-of-requires : tie.Need-r1-of-requires
-r1-of-requires c κs = search needs
-
-index-of-requires : tie.Need-index-of-requires
-index-of-requires c κs = search needs
-
-operand-of-requires : tie.Need-operand-of-requires
-operand-of-requires c κs = search needs
-
-cast-cell : tie.Need-cast-cell
-cast-cell c = search needs
-
 enum-told : tie.Need-enum-told
 enum-told c = search needs
-
-enum-told-2 : tie.Need-enum-told-2
-enum-told-2 c = search needs
-
-mul-registers : tie.Need-mul-registers
-mul-registers c = search needs
 
 shared-slice-read-registers : tie.Need-shared-slice-read-registers
 shared-slice-read-registers c =
@@ -55,23 +31,11 @@ shared-slice-read-registers c =
     let d = read (arm .before .before) LD (arm .enum-told2 .given .1) in
     cell-in-area _ _ (d .formed .1)
 
-mul-registers-2 : tie.Need-mul-registers-2
-mul-registers-2 c = search needs
-
 element-write-registers : tie.Need-element-write-registers
 element-write-registers c =
     let arm = c .before in
     let d = read (arm .before .before) LD (arm .enum-told2 .given .1) in
     omega (arith, d .formed .0)
-
-enum-told-3 : tie.Need-enum-told-3
-enum-told-3 c = search needs
-
-index-of-requires-2 : tie.Need-index-of-requires-2
-index-of-requires-2 c κs = search needs
-
-mul-registers-3 : tie.Need-mul-registers-3
-mul-registers-3 c = search needs
 
 element-copy-out-registers : tie.Need-element-copy-out-registers
 element-copy-out-registers c =
@@ -79,28 +43,16 @@ element-copy-out-registers c =
     let d = read (arm .before .before) LDR (arm .enum-told3 .given .1) in
     omega (arith, d .formed .1)
 
-mul-registers-4 : tie.Need-mul-registers-4
-mul-registers-4 c = search needs
-
 element-write-registers-2 : tie.Need-element-write-registers-2
 element-write-registers-2 c =
     let arm = c .before .before in
     let d = read (arm .before .before) LDR (arm .enum-told3 .given .1) in
     omega (arith, d .formed .0)
 
-enum-known-form : tie.Need-enum-known-form
-enum-known-form c = search needs
-
-mul-computed : tie.Need-mul-computed
-mul-computed c = search needs
-
 element-copy-out-computed : tie.Need-element-copy-out-computed
 element-copy-out-computed c =
     let d = read (c .before .before .before) _ (c .before .form .given .1) in
     omega (arith, d .formed .0)
-
-mul-computed-2 : tie.Need-mul-computed-2
-mul-computed-2 c = search needs
 
 shared-slice-read-computed : tie.Need-shared-slice-read-computed
 shared-slice-read-computed c =
@@ -108,34 +60,16 @@ shared-slice-read-computed c =
     let d = read (arm .before .before .before) _ (arm .before .form .given .1) in
     cell-in-area _ _ (d .formed .1)
 
-computed-requires : tie.Need-computed-requires
-computed-requires c κs = search needs
-
-mul-registers-5 : tie.Need-mul-registers-5
-mul-registers-5 c = search needs
-
 element-write-registers-3 : tie.Need-element-write-registers-3
 element-write-registers-3 c =
     let arm = c .before .before .before in
     let d = read (arm .before .before .before) _ (arm .before .form .given .1) in
     omega (arith, d .formed .0)
 
-enum-known-form-2 : tie.Need-enum-known-form-2
-enum-known-form-2 c = search needs
-
-mul-computed-3 : tie.Need-mul-computed-3
-mul-computed-3 c = search needs
-
 element-copy-out-computed-2 : tie.Need-element-copy-out-computed-2
 element-copy-out-computed-2 c =
     let d = read (c .before .before .before) _ (c .before .form2 .given .1) in
     omega (arith, d .formed .0)
-
-index-of-requires-3 : tie.Need-index-of-requires-3
-index-of-requires-3 c κs = search needs
-
-mul-computed-4 : tie.Need-mul-computed-4
-mul-computed-4 c = search needs
 
 element-copy-out-computed-3 : tie.Need-element-copy-out-computed-3
 element-copy-out-computed-3 c =
@@ -143,31 +77,16 @@ element-copy-out-computed-3 c =
     let d = read (arm .before .before .before) _ (arm .before .form2 .given .1) in
     omega (arith, d .formed .1)
 
-computed-requires-2 : tie.Need-computed-requires-2
-computed-requires-2 c κs = search needs
-
-mul-registers-6 : tie.Need-mul-registers-6
-mul-registers-6 c = search needs
-
 element-write-registers-4 : tie.Need-element-write-registers-4
 element-write-registers-4 c =
     let arm = c .before .before .before .before in
     let d = read (arm .before .before .before) _ (arm .before .form2 .given .1) in
     omega (arith, d .formed .0)
 
-enum-told-4 : tie.Need-enum-told-4
-enum-told-4 c = search needs
-
-mul-results : tie.Need-mul-results
-mul-results c = search needs
-
 element-copy-out-results : tie.Need-element-copy-out-results
 element-copy-out-results c =
     let d = read (c .before .before) STD (c .enum-told4 .given .1) in
     omega (arith, d .formed .0)
-
-mul-results-2 : tie.Need-mul-results-2
-mul-results-2 c = search needs
 
 slice-write-results : tie.Need-slice-write-results
 slice-write-results c =
@@ -240,9 +159,6 @@ returns-5 c =
       any-default (now (a .registers)) (indexOf (o .operand-of .result)) nan (binary64 .nought) (omega (arith, d .formed .1)),
     )
 
-same-length : tie.Need-same-length
-same-length c = search needs
-
 returns-6 : tie.Need-returns-6
 returns-6 c =
     let arm = c .before in
@@ -261,50 +177,50 @@ pub execute-spec : {M : Type 1} → statement M
 execute-spec =
     tie.close
     (tie.spec
-    operation-of-requires
-    form-of-requires
-    r1-of-requires
-    index-of-requires
-    operand-of-requires
-    cast-cell
+    (λ c κs. search needs)
+    (λ c κs. search needs)
+    (λ c κs. search needs)
+    (λ c κs. search needs)
+    (λ c κs. search needs)
+    (λ c. search needs)
     enum-told
-    enum-told-2
-    mul-registers
+    (λ c. search needs)
+    (λ c. search needs)
     shared-slice-read-registers
-    mul-registers-2
+    (λ c. search needs)
     element-write-registers
-    enum-told-3
-    index-of-requires-2
-    mul-registers-3
+    (λ c. search needs)
+    (λ c κs. search needs)
+    (λ c. search needs)
     element-copy-out-registers
-    mul-registers-4
+    (λ c. search needs)
     element-write-registers-2
-    enum-known-form
-    mul-computed
+    (λ c. search needs)
+    (λ c. search needs)
     element-copy-out-computed
-    mul-computed-2
+    (λ c. search needs)
     shared-slice-read-computed
-    computed-requires
-    mul-registers-5
+    (λ c κs. search needs)
+    (λ c. search needs)
     element-write-registers-3
-    enum-known-form-2
-    mul-computed-3
+    (λ c. search needs)
+    (λ c. search needs)
     element-copy-out-computed-2
-    index-of-requires-3
-    mul-computed-4
+    (λ c κs. search needs)
+    (λ c. search needs)
     element-copy-out-computed-3
-    computed-requires-2
-    mul-registers-6
+    (λ c κs. search needs)
+    (λ c. search needs)
     element-write-registers-4
-    enum-told-4
-    mul-results
+    (λ c. search needs)
+    (λ c. search needs)
     element-copy-out-results
-    mul-results-2
+    (λ c. search needs)
     slice-write-results
     returns
     returns-2
     returns-3
     returns-4
     returns-5
-    same-length
+    (λ c. search needs)
     returns-6)

@@ -18,20 +18,11 @@ Inv-loop words operands results₀ refused registers₀ place₀ place-end resul
 abbrev μ-loop : tie.MeasureT-loop
 μ-loop words operands results₀ refused registers₀ place₀ place-end results registers place = length words - place
 
-check-list-against-requires : tie.Need-check-list-against-requires Inv-loop μ-loop
-check-list-against-requires c κs = search needs
-
 returns : tie.Need-returns Inv-loop μ-loop
 returns c = run-refused binary64 _ (c .before .check-list-against .ensures) (c .if1 .taken) _
 
 loop-holds : tie.Need-loop-holds Inv-loop μ-loop
 loop-holds c = running-none
-
-mul-execute : tie.Need-mul-execute Inv-loop μ-loop
-mul-execute c = search needs
-
-shared-slice-read-execute : tie.Need-shared-slice-read-execute Inv-loop μ-loop
-shared-slice-read-execute c = search needs
 
 execute-requires : tie.Need-execute-requires Inv-loop μ-loop
 execute-requires c κs =
@@ -68,11 +59,11 @@ one-at-a-time-spec =
     (tie.spec
     Inv-loop
     μ-loop
-    check-list-against-requires
+    (λ c κs. search needs)
     returns
     loop-holds
-    mul-execute
-    shared-slice-read-execute
+    (λ c. search needs)
+    (λ c. search needs)
     execute-requires
     add-place
     loop-less

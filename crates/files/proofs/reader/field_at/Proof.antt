@@ -3,21 +3,6 @@ use borrow.Author.Needs.{needs}
 use Rattle.files.proofs.reader.field_at.Statement.{statement}
 use Rattle.files.proofs.reader.field_at.Tie as tie
 
-number-at-requires : tie.Need-number-at-requires
-number-at-requires c κs = search needs
-
-enum-known-value : tie.Need-enum-known-value
-enum-known-value c = search needs
-
-own-refusal-requires : tie.Need-own-refusal-requires
-own-refusal-requires c κs = search needs
-
-owned-requires : tie.Need-owned-requires
-owned-requires c κs = search needs
-
-enum-known-refusal : tie.Need-enum-known-refusal
-enum-known-refusal c = search needs
-
 returns : tie.Need-returns
 unfolding fieldAt
 returns c =
@@ -32,10 +17,10 @@ pub field-at-spec : {M : Type 1} → statement M
 field-at-spec =
     tie.close
     (tie.spec
-    number-at-requires
-    enum-known-value
-    own-refusal-requires
-    owned-requires
-    enum-known-refusal
+    (λ c κs. search needs)
+    (λ c. search needs)
+    (λ c κs. search needs)
+    (λ c κs. search needs)
+    (λ c. search needs)
     returns
     returns-2)

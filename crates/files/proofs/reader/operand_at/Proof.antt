@@ -6,15 +6,6 @@ use borrow.Author.Needs.{needs}
 use Rattle.files.proofs.reader.operand_at.Statement.{statement}
 use Rattle.files.proofs.reader.operand_at.Tie as tie
 
-form-of-requires : tie.Need-form-of-requires
-form-of-requires c κs = search needs
-
-field-at-requires : tie.Need-field-at-requires
-field-at-requires c κs = search needs
-
-enum-known-operand : tie.Need-enum-known-operand
-enum-known-operand c = search needs
-
 word-of-requires : tie.Need-word-of-requires
 word-of-requires c κs =
     let f = c .before .before .before in
@@ -23,9 +14,6 @@ word-of-requires c κs =
     let e = told-as (f .field-at .ensures) (c .before .operand .given .1) in
     let o = rw (f .before .form-of .ensures) at (field-of _ _ _ e .passes) in
     (omega (arith, k .1), omega (arith, known-register _ (a .pre .1)), omega (arith, known-operand _ _ _ _ (a .pre .0) o))
-
-enum-known-refusal : tie.Need-enum-known-refusal
-enum-known-refusal c = search needs
 
 returns : tie.Need-returns
 unfolding operandAt
@@ -44,10 +32,10 @@ pub operand-at-spec : {M : Type 1} → statement M
 operand-at-spec =
     tie.close
     (tie.spec
-    form-of-requires
-    field-at-requires
-    enum-known-operand
+    (λ c κs. search needs)
+    (λ c κs. search needs)
+    (λ c. search needs)
     word-of-requires
-    enum-known-refusal
+    (λ c. search needs)
     returns
     returns-2)

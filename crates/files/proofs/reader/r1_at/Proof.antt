@@ -4,18 +4,9 @@ use borrow.Author.Needs.{needs}
 use Rattle.files.proofs.reader.r1_at.Statement.{statement}
 use Rattle.files.proofs.reader.r1_at.Tie as tie
 
-field-at-requires : tie.Need-field-at-requires
-field-at-requires c κs = search needs
-
-enum-known-r1 : tie.Need-enum-known-r1
-enum-known-r1 c = search needs
-
 operand-at-requires : tie.Need-operand-at-requires
 operand-at-requires c κs =
     (c .before .before .before .before .before .pre, field-of _ _ _ (told-as (c .before .before .before .field-at .ensures) (c .before .r1 .given .1)) .passes)
-
-enum-known-refusal : tie.Need-enum-known-refusal
-enum-known-refusal c = search needs
 
 returns : tie.Need-returns
 unfolding r1At
@@ -31,9 +22,9 @@ pub r1-at-spec : {M : Type 1} → statement M
 r1-at-spec =
     tie.close
     (tie.spec
-    field-at-requires
-    enum-known-r1
+    (λ c κs. search needs)
+    (λ c. search needs)
     operand-at-requires
-    enum-known-refusal
+    (λ c. search needs)
     returns
     returns-2)

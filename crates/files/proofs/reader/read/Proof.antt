@@ -5,22 +5,10 @@ use borrow.Author.Needs.{needs}
 use Rattle.files.proofs.reader.read.Statement.{statement}
 use Rattle.files.proofs.reader.read.Tie as tie
 
-field-at-requires : tie.Need-field-at-requires
-field-at-requires c κs = search needs
-
-enum-known-count : tie.Need-enum-known-count
-enum-known-count c = search needs
-
 read-words-requires : tie.Need-read-words-requires
 read-words-requires c κs =
     let n = c .before .before in
     count-of _ _ (field-of _ _ _ (told-as (n .before .before .field-at .ensures) (n .count .given .1)) .passes) .1
-
-enum-known-refusal : tie.Need-enum-known-refusal
-enum-known-refusal c = search needs
-
-same-length : tie.Need-same-length
-same-length c = search needs
 
 returns : tie.Need-returns
 unfolding listIn
@@ -40,10 +28,10 @@ pub read-spec : {M : Type 1} → statement M
 read-spec =
     tie.close
     (tie.spec
-    field-at-requires
-    enum-known-count
+    (λ c κs. search needs)
+    (λ c. search needs)
     read-words-requires
-    enum-known-refusal
-    same-length
+    (λ c. search needs)
+    (λ c. search needs)
     returns
     returns-2)

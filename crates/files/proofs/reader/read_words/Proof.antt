@@ -6,24 +6,12 @@ use borrow.Author.Needs.{needs}
 use Rattle.files.proofs.reader.read_words.Statement.{statement}
 use Rattle.files.proofs.reader.read_words.Tie as tie
 
-check-words-requires : tie.Need-check-words-requires
-check-words-requires c κs = search needs
-
-enum-known-end : tie.Need-enum-known-end
-enum-known-end c = search needs
-
 store-words-requires : tie.Need-store-words-requires
 store-words-requires c κs =
     let e = c .before .before in
     let w = e .before .before in
     let o = w .before .before .before in
     (passed-good (passed-of (o .args .bytes .now) (o .args .start) (o .args .count) (told-as (w .check-words .ensures) (e .end .given .1))), o .pre)
-
-enum-known-refusal : tie.Need-enum-known-refusal
-enum-known-refusal c = search needs
-
-same-length : tie.Need-same-length
-same-length c = search needs
 
 returns : tie.Need-returns
 returns c =
@@ -45,10 +33,10 @@ pub read-words-spec : {M : Type 1} → statement M
 read-words-spec =
     tie.close
     (tie.spec
-    check-words-requires
-    enum-known-end
+    (λ c κs. search needs)
+    (λ c. search needs)
     store-words-requires
-    enum-known-refusal
-    same-length
+    (λ c. search needs)
+    (λ c. search needs)
     returns
     returns-2)

@@ -21,18 +21,6 @@ abbrev μ-loop : tie.MeasureT-loop
 loop-holds : tie.Need-loop-holds Inv-loop μ-loop
 loop-holds c = storing-none _ _ _ _ (c .before .before .pre .0)
 
-word-at-requires : tie.Need-word-at-requires Inv-loop μ-loop
-word-at-requires c κs = search needs
-
-enum-known-word : tie.Need-enum-known-word Inv-loop μ-loop
-enum-known-word c = search needs
-
-mul-words : tie.Need-mul-words Inv-loop μ-loop
-mul-words c = search needs
-
-slice-write-words : tie.Need-slice-write-words Inv-loop μ-loop
-slice-write-words c = search needs
-
 enum-told : tie.Need-enum-told Inv-loop μ-loop
 enum-told c = search needs
 
@@ -43,12 +31,6 @@ returns : tie.Need-returns Inv-loop μ-loop
 returns c =
     let w = c .before .before in
     storing-stops _ _ _ _ (w .before .before .loop .inv) (w .before .loop-test .taken) (told-as (w .word-at .ensures) (c .enum-told .given .1))
-
-add-i : tie.Need-add-i Inv-loop μ-loop
-add-i c = search needs
-
-loop-less : tie.Need-loop-less Inv-loop μ-loop
-loop-less c = search needs
 
 loop-again : tie.Need-loop-again Inv-loop μ-loop
 loop-again c =
@@ -68,15 +50,15 @@ store-words-spec =
     Inv-loop
     μ-loop
     loop-holds
-    word-at-requires
-    enum-known-word
-    mul-words
-    slice-write-words
+    (λ c κs. search needs)
+    (λ c. search needs)
+    (λ c. search needs)
+    (λ c. search needs)
     enum-told
     same-length
     returns
-    add-i
-    loop-less
+    (λ c. search needs)
+    (λ c. search needs)
     loop-again
     same-length-2
     returns-2)

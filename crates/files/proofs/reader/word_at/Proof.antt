@@ -4,18 +4,9 @@ use borrow.Author.Needs.{needs}
 use Rattle.files.proofs.reader.word_at.Statement.{statement}
 use Rattle.files.proofs.reader.word_at.Tie as tie
 
-field-at-requires : tie.Need-field-at-requires
-field-at-requires c κs = search needs
-
-enum-known-operation : tie.Need-enum-known-operation
-enum-known-operation c = search needs
-
 r1-at-requires : tie.Need-r1-at-requires
 r1-at-requires c κs =
     field-of _ _ _ (told-as (c .before .before .before .field-at .ensures) (c .before .operation .given .1)) .passes
-
-enum-known-refusal : tie.Need-enum-known-refusal
-enum-known-refusal c = search needs
 
 returns : tie.Need-returns
 unfolding wordAt
@@ -31,9 +22,9 @@ pub word-at-spec : {M : Type 1} → statement M
 word-at-spec =
     tie.close
     (tie.spec
-    field-at-requires
-    enum-known-operation
+    (λ c κs. search needs)
+    (λ c. search needs)
     r1-at-requires
-    enum-known-refusal
+    (λ c. search needs)
     returns
     returns-2)

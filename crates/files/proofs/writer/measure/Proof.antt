@@ -17,23 +17,8 @@ abbrev μ-loop : tie.MeasureT-loop
 returns : tie.Need-returns Inv-loop μ-loop
 returns c = too-long _ (c .if1 .taken)
 
-cast-number-size : tie.Need-cast-number-size Inv-loop μ-loop
-cast-number-size c = search needs
-
-number-size-requires : tie.Need-number-size-requires Inv-loop μ-loop
-number-size-requires c κs = search needs
-
 loop-holds : tie.Need-loop-holds Inv-loop μ-loop
 loop-holds c = sizing-none _ (c .number-size .ensures)
-
-mul-word-refusal : tie.Need-mul-word-refusal Inv-loop μ-loop
-mul-word-refusal c = search needs
-
-shared-slice-read-word-refusal : tie.Need-shared-slice-read-word-refusal Inv-loop μ-loop
-shared-slice-read-word-refusal c = search needs
-
-word-refusal-requires : tie.Need-word-refusal-requires Inv-loop μ-loop
-word-refusal-requires c κs = search needs
 
 returns-2 : tie.Need-returns-2 Inv-loop μ-loop
 returns-2 c =
@@ -41,15 +26,6 @@ returns-2 c =
     let t = w .before .before in
     let l = t .before in
     sizing-bad _ (l .loop .inv) (t .loop-test .taken) (l .before .before .if1 .left) (w .word-refusal .ensures) (c .if2 .taken)
-
-mul-word-size : tie.Need-mul-word-size Inv-loop μ-loop
-mul-word-size c = search needs
-
-shared-slice-read-word-size : tie.Need-shared-slice-read-word-size Inv-loop μ-loop
-shared-slice-read-word-size c = search needs
-
-word-size-requires : tie.Need-word-size-requires Inv-loop μ-loop
-word-size-requires c κs = search needs
 
 add-size : tie.Need-add-size Inv-loop μ-loop
 add-size c =
@@ -62,12 +38,6 @@ add-size c =
       t .before .loop .inv .within,
       t .before .before .before .if1 .left,
     )
-
-add-place : tie.Need-add-place Inv-loop μ-loop
-add-place c = search needs
-
-loop-less : tie.Need-loop-less Inv-loop μ-loop
-loop-less c = search needs
 
 loop-again : tie.Need-loop-again Inv-loop μ-loop
 loop-again c =
@@ -86,18 +56,18 @@ measure-spec =
     Inv-loop
     μ-loop
     returns
-    cast-number-size
-    number-size-requires
+    (λ c. search needs)
+    (λ c κs. search needs)
     loop-holds
-    mul-word-refusal
-    shared-slice-read-word-refusal
-    word-refusal-requires
+    (λ c. search needs)
+    (λ c. search needs)
+    (λ c κs. search needs)
     returns-2
-    mul-word-size
-    shared-slice-read-word-size
-    word-size-requires
+    (λ c. search needs)
+    (λ c. search needs)
+    (λ c κs. search needs)
     add-size
-    add-place
-    loop-less
+    (λ c. search needs)
+    (λ c. search needs)
     loop-again
     returns-3)

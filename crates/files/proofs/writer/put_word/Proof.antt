@@ -5,18 +5,12 @@ use borrow.Author.Needs.{needs}
 use Rattle.files.proofs.writer.put_word.Statement.{statement}
 use Rattle.files.proofs.writer.put_word.Tie as tie
 
-operation-of-requires : tie.Need-operation-of-requires
-operation-of-requires c κs = search needs
-
 put-number-requires : tie.Need-put-number-requires
 put-number-requires c κs =
     let o = c .before in (
       omega (arith, o .operation-of .ensures),
       omega (arith, word-size (o .before .before .args .word), ap size (o .operation-of .ensures)),
     )
-
-r1-of-requires : tie.Need-r1-of-requires
-r1-of-requires c κs = search needs
 
 put-number-requires-2 : tie.Need-put-number-requires-2
 put-number-requires-2 c κs =
@@ -33,9 +27,6 @@ put-number-requires-2 c κs =
         ap size (r .r1-of .ensures),
       ),
     )
-
-operand-of-requires : tie.Need-operand-of-requires
-operand-of-requires c κs = search needs
 
 put-number-requires-3 : tie.Need-put-number-requires-3
 put-number-requires-3 c κs =
@@ -57,9 +48,6 @@ put-number-requires-3 c κs =
         ap size (x .operand-of .ensures),
       ),
     )
-
-same-length : tie.Need-same-length
-same-length c = search needs
 
 returns : tie.Need-returns
 returns c =
@@ -95,11 +83,11 @@ pub put-word-spec : {M : Type 1} → statement M
 put-word-spec =
     tie.close
     (tie.spec
-    operation-of-requires
+    (λ c κs. search needs)
     put-number-requires
-    r1-of-requires
+    (λ c κs. search needs)
     put-number-requires-2
-    operand-of-requires
+    (λ c κs. search needs)
     put-number-requires-3
-    same-length
+    (λ c. search needs)
     returns)

@@ -7,24 +7,6 @@ use borrow.Author.Needs.{needs}
 use Rattle.files.proofs.writer.word_size.Statement.{statement}
 use Rattle.files.proofs.writer.word_size.Tie as tie
 
-operation-of-requires : tie.Need-operation-of-requires
-operation-of-requires c κs = search needs
-
-number-size-requires : tie.Need-number-size-requires
-number-size-requires c κs = search needs
-
-r1-of-requires : tie.Need-r1-of-requires
-r1-of-requires c κs = search needs
-
-number-size-requires-2 : tie.Need-number-size-requires-2
-number-size-requires-2 c κs = search needs
-
-operand-of-requires : tie.Need-operand-of-requires
-operand-of-requires c κs = search needs
-
-number-size-requires-3 : tie.Need-number-size-requires-3
-number-size-requires-3 c κs = search needs
-
 add-result : tie.Need-add-result
 add-result c =
     let two = c .before .before in
@@ -62,12 +44,12 @@ pub word-size-spec : {M : Type 1} → statement M
 word-size-spec =
     tie.close
     (tie.spec
-    operation-of-requires
-    number-size-requires
-    r1-of-requires
-    number-size-requires-2
-    operand-of-requires
-    number-size-requires-3
+    (λ c κs. search needs)
+    (λ c κs. search needs)
+    (λ c κs. search needs)
+    (λ c κs. search needs)
+    (λ c κs. search needs)
+    (λ c κs. search needs)
     add-result
     add-result-2
     returns)

@@ -8,9 +8,6 @@ use borrow.Author.Needs.{needs}
 use Rattle.files.proofs.writer.write.Statement.{statement}
 use Rattle.files.proofs.writer.write.Tie as tie
 
-measure-requires : tie.Need-measure-requires
-measure-requires c κs = search needs
-
 returns : tie.Need-returns
 returns c = wrote-refused _ _ (c .before .before .measure .ensures) (c .if1 .taken)
 
@@ -49,9 +46,6 @@ put-words-requires c κs =
       p .put-number .kept .1 .0,
     )
 
-same-length : tie.Need-same-length
-same-length c = search needs
-
 returns-3 : tie.Need-returns-3
 returns-3 c =
     let w = c .before .before in
@@ -67,11 +61,11 @@ pub write-spec : {M : Type 1} → statement M
 write-spec =
     tie.close
     (tie.spec
-    measure-requires
+    (λ c κs. search needs)
     returns
     returns-2
     cast-put-number
     put-number-requires
     put-words-requires
-    same-length
+    (λ c. search needs)
     returns-3)

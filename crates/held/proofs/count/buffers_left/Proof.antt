@@ -26,9 +26,6 @@ mul-buffer-left c = omega arith
 array-copy-out-buffer-left : tie.Need-array-copy-out-buffer-left Inv-loop μ-loop
 array-copy-out-buffer-left c = omega arith
 
-buffer-left-requires : tie.Need-buffer-left-requires Inv-loop μ-loop
-buffer-left-requires c κs = search needs
-
 add-left : tie.Need-add-left Inv-loop μ-loop
 add-left c =
     let long : c .before .before .before .loop .i < length (c .before .before .before .before .args .t1) = search needs in
@@ -58,7 +55,7 @@ buffers-left-spec =
     loop-holds
     mul-buffer-left
     array-copy-out-buffer-left
-    buffer-left-requires
+    (λ c κs. search needs)
     add-left
     add-i
     loop-less

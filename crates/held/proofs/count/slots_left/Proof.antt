@@ -20,17 +20,8 @@ left : (c : tie.After-stores-left)
     → SlotsLeft (view (c .before .before .before .before .before .before .args .m)) (c .before .before .buffers-left .result + c .before .stations-left .result + c .stores-left .result)
 left c = slots-left _ _ (shape (c .before .before .before .before .before .before)) (cc)
 
-buffers-left-requires : tie.Need-buffers-left-requires
-buffers-left-requires c κs = search needs
-
-stations-left-requires : tie.Need-stations-left-requires
-stations-left-requires c κs = search needs
-
 add-result : tie.Need-add-result
 add-result c = omega (arith, rows-weigh _ (shape (c .before .before .before .before .before)))
-
-stores-left-requires : tie.Need-stores-left-requires
-stores-left-requires c κs = search needs
 
 add-result-2 : tie.Need-add-result-2
 add-result-2 c = omega (arith, left c)
@@ -42,9 +33,9 @@ pub slots-left-spec : {M : Type 1} → statement M
 slots-left-spec =
     tie.close
     (tie.spec
-    buffers-left-requires
-    stations-left-requires
+    (λ c κs. search needs)
+    (λ c κs. search needs)
     add-result
-    stores-left-requires
+    (λ c κs. search needs)
     add-result-2
     returns)

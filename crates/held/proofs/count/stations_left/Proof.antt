@@ -26,9 +26,6 @@ mul-station-left c = omega arith
 array-copy-out-station-left : tie.Need-array-copy-out-station-left Inv-loop μ-loop
 array-copy-out-station-left c = omega arith
 
-station-left-requires : tie.Need-station-left-requires Inv-loop μ-loop
-station-left-requires c κs = search needs
-
 add-left : tie.Need-add-left Inv-loop μ-loop
 add-left c =
     let long : c .before .before .before .loop .i < length (c .before .before .before .before .args .t1) = search needs in
@@ -58,7 +55,7 @@ stations-left-spec =
     loop-holds
     mul-station-left
     array-copy-out-station-left
-    station-left-requires
+    (λ c κs. search needs)
     add-left
     add-i
     loop-less

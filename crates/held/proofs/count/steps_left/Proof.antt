@@ -10,25 +10,13 @@ use Rattle.held.proofs.Weights.{words-weigh, all-left}
 use Rattle.held.proofs.count.steps_left.Statement.{statement}
 use Rattle.held.proofs.count.steps_left.Tie as tie
 
-check-list-against-requires : tie.Need-check-list-against-requires
-check-list-against-requires c κs = search needs
-
 returns : tie.Need-returns
 returns c = left-refused binary64 _ (c .before .check-list-against .ensures) (c .if1 .taken) _
-
-in-good-order-requires : tie.Need-in-good-order-requires
-in-good-order-requires c κs = search needs
 
 returns-2 : tie.Need-returns-2
 returns-2 c =
     let checked = c .before .before in
     left-disordered binary64 _ (checked .before .check-list-against .ensures) (checked .if1 .left) _ (sym (c .before .in-good-order .ensures) ∙ not-true _ (c .if2 .taken))
-
-words-left-requires : tie.Need-words-left-requires
-words-left-requires c κs = search needs
-
-slots-left-requires : tie.Need-slots-left-requires
-slots-left-requires c κs = search needs
 
 add-t11 : tie.Need-add-t11
 add-t11 c =
@@ -47,11 +35,11 @@ pub steps-left-spec : {M : Type 1} → statement M
 steps-left-spec =
     tie.close
     (tie.spec
-    check-list-against-requires
+    (λ c κs. search needs)
     returns
-    in-good-order-requires
+    (λ c κs. search needs)
     returns-2
-    words-left-requires
-    slots-left-requires
+    (λ c κs. search needs)
+    (λ c κs. search needs)
     add-t11
     returns-3)

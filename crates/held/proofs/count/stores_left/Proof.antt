@@ -26,9 +26,6 @@ mul-store-left c = omega arith
 array-copy-out-store-left : tie.Need-array-copy-out-store-left Inv-loop μ-loop
 array-copy-out-store-left c = omega arith
 
-store-left-requires : tie.Need-store-left-requires Inv-loop μ-loop
-store-left-requires c κs = search needs
-
 add-left : tie.Need-add-left Inv-loop μ-loop
 add-left c =
     let long : c .before .before .before .loop .i < length (c .before .before .before .before .args .t1) = search needs in
@@ -58,7 +55,7 @@ stores-left-spec =
     loop-holds
     mul-store-left
     array-copy-out-store-left
-    store-left-requires
+    (λ c κs. search needs)
     add-left
     add-i
     loop-less

@@ -9,29 +9,8 @@ use Rattle.held.proofs.count.word_left.Tie as tie
 by-form : (c : tie.After-form-of) → formOf (operationField (c .before .before .args .word)) ≡ c .form-of .result
 by-form c = cc
 
-operation-of-requires : tie.Need-operation-of-requires
-operation-of-requires c κs = search needs
-
-form-of-requires : tie.Need-form-of-requires
-form-of-requires c κs = search needs
-
 enum-told : tie.Need-enum-told
 enum-told c = search needs
-
-enum-told-2 : tie.Need-enum-told-2
-enum-told-2 c = search needs
-
-enum-told-3 : tie.Need-enum-told-3
-enum-told-3 c = search needs
-
-enum-told-4 : tie.Need-enum-told-4
-enum-told-4 c = search needs
-
-enum-told-5 : tie.Need-enum-told-5
-enum-told-5 c = search needs
-
-enum-told-6 : tie.Need-enum-told-6
-enum-told-6 c = search needs
 
 returns : tie.Need-returns
 unfolding decode
@@ -61,14 +40,14 @@ pub word-left-spec : {M : Type 1} → statement M
 word-left-spec =
     tie.close
     (tie.spec
-    operation-of-requires
-    form-of-requires
+    (λ c κs. search needs)
+    (λ c κs. search needs)
     enum-told
-    enum-told-2
-    enum-told-3
-    enum-told-4
-    enum-told-5
-    enum-told-6
+    (λ c. search needs)
+    (λ c. search needs)
+    (λ c. search needs)
+    (λ c. search needs)
+    (λ c. search needs)
     returns
     returns-2
     returns-3

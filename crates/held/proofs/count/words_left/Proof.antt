@@ -18,15 +18,6 @@ abbrev μ-loop : tie.MeasureT-loop
 loop-holds : tie.Need-loop-holds Inv-loop μ-loop
 loop-holds c = summed-none
 
-mul-word-left : tie.Need-mul-word-left Inv-loop μ-loop
-mul-word-left c = search needs
-
-shared-slice-read-word-left : tie.Need-shared-slice-read-word-left Inv-loop μ-loop
-shared-slice-read-word-left c = search needs
-
-word-left-requires : tie.Need-word-left-requires Inv-loop μ-loop
-word-left-requires c κs = search needs
-
 add-left : tie.Need-add-left Inv-loop μ-loop
 add-left c = omega (arith, summed-fits (λ w. instruction-weighs (decode w)) (summed-more (c .before .before .before .loop .inv) 0 (c .before .before .loop-test .taken) (c .word-left .ensures)))
 
@@ -49,9 +40,9 @@ words-left-spec =
     Inv-loop
     μ-loop
     loop-holds
-    mul-word-left
-    shared-slice-read-word-left
-    word-left-requires
+    (λ c. search needs)
+    (λ c. search needs)
+    (λ c κs. search needs)
     add-left
     add-place
     loop-less

@@ -21,17 +21,8 @@ found c = ap placeIn (c .giver-places .ensures) ∙ same-places _ _
 returns : tie.Need-returns
 returns c = row-fails _ _ _ _ _ (short (c .before .before .before .before .before)) 0 (lt-leb _ _ (c .if1 .taken))
 
-buffers-good-requires : tie.Need-buffers-good-requires
-buffers-good-requires c κs = search needs
-
 returns-2 : tie.Need-returns-2
 returns-2 c = row-fails _ _ _ _ _ (short (c .before .before .before .before .before .before .before)) 1 (sym (c .before .buffers-good .ensures) ∙ not-true _ (c .if2 .taken))
-
-giver-places-requires : tie.Need-giver-places-requires
-giver-places-requires c κs = search needs
-
-stations-good-requires : tie.Need-stations-good-requires
-stations-good-requires c κs = search needs
 
 returns-3 : tie.Need-returns-3
 returns-3 c =
@@ -40,9 +31,6 @@ returns-3 c =
     row-fails _ _ _ _ _ (short start) 2
     (sym (ap (λ (f : ℕ → ℕ). stationsGood f (m .next) (m .stations)) (found (c .before .before .before))) ∙ sym (c .before .stations-good .ensures) ∙ not-true _ (c .if3 .taken))
 
-registers-good-requires : tie.Need-registers-good-requires
-registers-good-requires c κs = search needs
-
 returns-4 : tie.Need-returns-4
 returns-4 c =
     let start = c .before .before .before .before .before .before .before .before .before .before .before .before .before .before in
@@ -50,18 +38,12 @@ returns-4 c =
     row-fails _ _ _ _ _ (short start) 3
     (sym (ap (λ (f : ℕ → ℕ). registersGood f (binary64 .nought) (m .registers)) (found (c .before .before .before .before .before .before))) ∙ sym (c .before .registers-good .ensures) ∙ not-true _ (c .if4 .taken))
 
-stores-good-requires : tie.Need-stores-good-requires
-stores-good-requires c κs = search needs
-
 returns-5 : tie.Need-returns-5
 returns-5 c =
     let start = c .before .before .before .before .before .before .before .before .before .before .before .before .before .before .before .before .before in
     let m = view (start .args .m) in
     row-fails _ _ _ _ _ (short start) 4
     (sym (ap (λ (f : ℕ → ℕ). storesGood f (m .next) (start .args .results) (m .stores)) (found (c .before .before .before .before .before .before .before .before .before))) ∙ sym (c .before .stores-good .ensures) ∙ not-true _ (c .if5 .taken))
-
-stores-apart-requires : tie.Need-stores-apart-requires
-stores-apart-requires c κs = search needs
 
 returns-6 : tie.Need-returns-6
 returns-6 c =
@@ -89,14 +71,14 @@ in-good-order-spec =
     tie.close
     (tie.spec
     returns
-    buffers-good-requires
+    (λ c κs. search needs)
     returns-2
-    giver-places-requires
-    stations-good-requires
+    (λ c κs. search needs)
+    (λ c κs. search needs)
     returns-3
-    registers-good-requires
+    (λ c κs. search needs)
     returns-4
-    stores-good-requires
+    (λ c κs. search needs)
     returns-5
-    stores-apart-requires
+    (λ c κs. search needs)
     returns-6)

@@ -24,9 +24,6 @@ mul-buffer-good c = omega arith
 array-copy-out-buffer-good : tie.Need-array-copy-out-buffer-good Inv-loop μ-loop
 array-copy-out-buffer-good c = omega arith
 
-buffer-good-requires : tie.Need-buffer-good-requires Inv-loop μ-loop
-buffer-good-requires c κs = search needs
-
 returns : tie.Need-returns Inv-loop μ-loop
 returns c =
     let test = c .before .before .before in
@@ -55,7 +52,7 @@ buffers-good-spec =
     loop-holds
     mul-buffer-good
     array-copy-out-buffer-good
-    buffer-good-requires
+    (λ c κs. search needs)
     returns
     add-i
     loop-less

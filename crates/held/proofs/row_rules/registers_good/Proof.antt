@@ -26,9 +26,6 @@ mul-register-good c = omega arith
 array-copy-out-register-good : tie.Need-array-copy-out-register-good Inv-loop μ-loop
 array-copy-out-register-good c = omega arith
 
-register-good-requires : tie.Need-register-good-requires Inv-loop μ-loop
-register-good-requires c κs = search needs
-
 returns : tie.Need-returns Inv-loop μ-loop
 returns c =
     let test = c .before .before .before in
@@ -57,7 +54,7 @@ registers-good-spec =
     loop-holds
     mul-register-good
     array-copy-out-register-good
-    register-good-requires
+    (λ c κs. search needs)
     returns
     add-i
     loop-less

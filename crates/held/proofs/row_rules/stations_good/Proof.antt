@@ -24,9 +24,6 @@ mul-station-good c = omega arith
 array-copy-out-station-good : tie.Need-array-copy-out-station-good Inv-loop μ-loop
 array-copy-out-station-good c = omega arith
 
-station-good-requires : tie.Need-station-good-requires Inv-loop μ-loop
-station-good-requires c κs = search needs
-
 returns : tie.Need-returns Inv-loop μ-loop
 returns c =
     let test = c .before .before .before in
@@ -55,7 +52,7 @@ stations-good-spec =
     loop-holds
     mul-station-good
     array-copy-out-station-good
-    station-good-requires
+    (λ c κs. search needs)
     returns
     add-i
     loop-less

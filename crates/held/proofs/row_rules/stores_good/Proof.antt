@@ -24,9 +24,6 @@ mul-store-good c = omega arith
 array-copy-out-store-good : tie.Need-array-copy-out-store-good Inv-loop μ-loop
 array-copy-out-store-good c = omega arith
 
-store-good-requires : tie.Need-store-good-requires Inv-loop μ-loop
-store-good-requires c κs = search needs
-
 returns : tie.Need-returns Inv-loop μ-loop
 returns c =
     let test = c .before .before .before in
@@ -55,7 +52,7 @@ stores-good-spec =
     loop-holds
     mul-store-good
     array-copy-out-store-good
-    store-good-requires
+    (λ c κs. search needs)
     returns
     add-i
     loop-less

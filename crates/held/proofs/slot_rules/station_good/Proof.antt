@@ -3,21 +3,6 @@ use borrow.Author.Needs.{needs}
 use Rattle.held.proofs.slot_rules.station_good.Statement.{statement}
 use Rattle.held.proofs.slot_rules.station_good.Tie as tie
 
-enum-told : tie.Need-enum-told
-enum-told c = search needs
-
-enum-known-state : tie.Need-enum-known-state
-enum-known-state c = search needs
-
-suits-requires : tie.Need-suits-requires
-suits-requires c κs = search needs
-
-operand-good-requires : tie.Need-operand-good-requires
-operand-good-requires c κs = search needs
-
-operand-good-requires-2 : tie.Need-operand-good-requires-2
-operand-good-requires-2 c κs = search needs
-
 returns : tie.Need-returns
 returns c =
     let sink = c .before .before in
@@ -32,12 +17,6 @@ returns c =
       c .before .if3 .taken,
       c .operand-good2 .ensures,
     )
-
-enum-known-state-2 : tie.Need-enum-known-state-2
-enum-known-state-2 c = search needs
-
-returns-2 : tie.Need-returns-2
-returns-2 c = search needs
 
 returns-3 : tie.Need-returns-3
 returns-3 c =
@@ -67,14 +46,14 @@ pub station-good-spec : {M : Type 1} → statement M
 station-good-spec =
     tie.close
     (tie.spec
-    enum-told
-    enum-known-state
-    suits-requires
-    operand-good-requires
-    operand-good-requires-2
+    (λ c. search needs)
+    (λ c. search needs)
+    (λ c κs. search needs)
+    (λ c κs. search needs)
+    (λ c κs. search needs)
     returns
-    enum-known-state-2
-    returns-2
+    (λ c. search needs)
+    (λ c. search needs)
     returns-3
     returns-4
     returns-5

@@ -3,18 +3,6 @@ use borrow.Author.Needs.{needs}
 use Rattle.held.proofs.slot_rules.store_good.Statement.{statement}
 use Rattle.held.proofs.slot_rules.store_good.Tie as tie
 
-enum-told : tie.Need-enum-told
-enum-told c = search needs
-
-enum-known-state : tie.Need-enum-known-state
-enum-known-state c = search needs
-
-cell-good-requires : tie.Need-cell-good-requires
-cell-good-requires c κs = search needs
-
-operand-good-requires : tie.Need-operand-good-requires
-operand-good-requires c κs = search needs
-
 returns : tie.Need-returns
 returns c =
     let cell = c .before .before in
@@ -26,9 +14,6 @@ returns c =
       c .before .if2 .taken,
       c .operand-good .ensures,
     )
-
-returns-2 : tie.Need-returns-2
-returns-2 c = search needs
 
 returns-3 : tie.Need-returns-3
 returns-3 c =
@@ -42,11 +27,11 @@ pub store-good-spec : {M : Type 1} → statement M
 store-good-spec =
     tie.close
     (tie.spec
-    enum-told
-    enum-known-state
-    cell-good-requires
-    operand-good-requires
+    (λ c. search needs)
+    (λ c. search needs)
+    (λ c κs. search needs)
+    (λ c κs. search needs)
     returns
-    returns-2
+    (λ c. search needs)
     returns-3
     returns-4)

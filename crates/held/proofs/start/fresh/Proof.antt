@@ -4,17 +4,8 @@ use Rattle.held.proofs.Checked.{fresh-refused, fresh-taken}
 use Rattle.held.proofs.start.fresh.Statement.{statement}
 use Rattle.held.proofs.start.fresh.Tie as tie
 
-check-list-against-requires : tie.Need-check-list-against-requires
-check-list-against-requires c κs = search needs
-
-empty-machine-requires : tie.Need-empty-machine-requires
-empty-machine-requires c κs = search needs
-
 returns : tie.Need-returns
 returns c = rw (c .empty-machine .ensures) (fresh-refused binary64 _ (c .before .before .check-list-against .ensures) (c .before .if1 .taken) _)
-
-empty-machine-requires-2 : tie.Need-empty-machine-requires-2
-empty-machine-requires-2 c κs = search needs
 
 returns-2 : tie.Need-returns-2
 returns-2 c = rw (c .empty-machine2 .ensures) (fresh-taken binary64 _ (c .before .before .check-list-against .ensures) (c .before .if1 .left) _)
@@ -23,8 +14,8 @@ pub fresh-spec : {M : Type 1} → statement M
 fresh-spec =
     tie.close
     (tie.spec
-    check-list-against-requires
-    empty-machine-requires
+    (λ c κs. search needs)
+    (λ c κs. search needs)
     returns
-    empty-machine-requires-2
+    (λ c κs. search needs)
     returns-2)

@@ -6,44 +6,20 @@ use borrow.Author.Needs.{needs}
 use Rattle.machine.proofs.advance.advance.Statement.{statement}
 use Rattle.machine.proofs.advance.advance.Tie as tie
 
-stays-requires : tie.Need-stays-requires
-stays-requires c κs = search needs
-
 returns : tie.Need-returns
 returns c = let a = c .before .before .before .before .before .before .before .args in not-begun (a .p) (now (a .words)) (now (a .operands)) (now (a .results)) (now (a .schedule)) (a .room) (not-true _ (c .before .if1 .taken)) (c .stays .ensures)
-
-stays-requires-2 : tie.Need-stays-requires-2
-stays-requires-2 c κs = search needs
 
 returns-2 : tie.Need-returns-2
 returns-2 c = let a = c .before .before .before .before .before .before .before .before .args in never (a .p) (now (a .words)) (now (a .operands)) (now (a .results)) (now (a .schedule)) (a .room) (not-false _ (c .before .before .if1 .left)) (c .before .if2 .taken) (c .stays2 .ensures)
 
-taking-requires : tie.Need-taking-requires
-taking-requires c κs = search needs
-
-write-released-requires : tie.Need-write-released-requires
-write-released-requires c κs = search needs
-
 enum-told : tie.Need-enum-told
 enum-told c = search needs
-
-stays-requires-3 : tie.Need-stays-requires-3
-stays-requires-3 c κs = search needs
-
-enum-known-released : tie.Need-enum-known-released
-enum-known-released c = search needs
 
 add-t23 : tie.Need-add-t23
 add-t23 c = let a = c .before .before .before .before .before .before .before .before .before .before .before .before .before .before .before .before .before .args in omega (arith, has-room (a .p) (now (a .words)) (now (a .operands)) (now (a .results)) (now (a .schedule)) (a .room) (not-false _ (c .before .before .before .before .before .before .before .before .before .before .before .if1 .left)) (c .before .before .before .before .before .before .before .before .before .before .if2 .left) (c .before .before .before .before .before .before .before .before .taking .result) (c .before .before .before .before .before .before .before .before .taking .ensures) (c .before .before .before .before .before .write-released .ensures) _ (c .before .released .given .1), c .before .before .before .before .before .before .before .before .before .before .before .before .before .before .before .before .before .fits .room .fits)
 
-same-length : tie.Need-same-length
-same-length c = search needs
-
 returns-3 : tie.Need-returns-3
 returns-3 c = let a = c .before .before .before .before .before .before .before .before .before .before .before .before .before .before .before .before .before .args in no-release (a .p) (now (a .words)) (now (a .operands)) (now (a .results)) (now (a .schedule)) (a .room) (not-false _ (c .before .before .before .before .before .before .before .before .before .before .before .if1 .left)) (c .before .before .before .before .before .before .before .before .before .before .if2 .left) (c .before .before .before .before .before .before .before .before .taking .result) (c .before .before .before .before .before .before .before .before .taking .ensures) (c .before .before .before .before .before .write-released .ensures) (c .before .enum-told .given .1) (c .stays3 .ensures)
-
-same-length-2 : tie.Need-same-length-2
-same-length-2 c = search needs
 
 returns-4 : tie.Need-returns-4
 returns-4 c = let a = c .before .before .before .before .before .before .before .before .before .before .before .before .before .before .before .before .before .args in release (a .p) (now (a .words)) (now (a .operands)) (now (a .results)) (now (a .schedule)) (a .room) (not-false _ (c .before .before .before .before .before .before .before .before .before .before .before .if1 .left)) (c .before .before .before .before .before .before .before .before .before .before .if2 .left) (c .before .before .before .before .before .before .before .before .taking .result) (c .before .before .before .before .before .before .before .before .taking .ensures) (c .before .before .before .before .before .write-released .ensures) _ (c .before .released .given .1)
@@ -52,17 +28,17 @@ pub advance-spec : {M : Type 1} → statement M
 advance-spec =
     tie.close
     (tie.spec
-    stays-requires
+    (λ c κs. search needs)
     returns
-    stays-requires-2
+    (λ c κs. search needs)
     returns-2
-    taking-requires
-    write-released-requires
+    (λ c κs. search needs)
+    (λ c κs. search needs)
     enum-told
-    stays-requires-3
-    enum-known-released
+    (λ c κs. search needs)
+    (λ c. search needs)
     add-t23
-    same-length
+    (λ c. search needs)
     returns-3
-    same-length-2
+    (λ c. search needs)
     returns-4)

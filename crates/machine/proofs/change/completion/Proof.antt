@@ -6,39 +6,6 @@ use Rattle.machine.proofs.change.completion.Tie as tie
 enum-told : tie.Need-enum-told
 enum-told c = search needs
 
-not-now-requires : tie.Need-not-now-requires
-not-now-requires c κs = search needs
-
-enum-known-state : tie.Need-enum-known-state
-enum-known-state c = search needs
-
-enum-known-sink : tie.Need-enum-known-sink
-enum-known-sink c = search needs
-
-enum-known-source : tie.Need-enum-known-source
-enum-known-source c = search needs
-
-computed-requires : tie.Need-computed-requires
-computed-requires c κs = search needs
-
-enum-told-2 : tie.Need-enum-told-2
-enum-told-2 c = search needs
-
-not-now-requires-2 : tie.Need-not-now-requires-2
-not-now-requires-2 c κs = search needs
-
-enum-told-3 : tie.Need-enum-told-3
-enum-told-3 c = search needs
-
-not-now-requires-3 : tie.Need-not-now-requires-3
-not-now-requires-3 c κs = search needs
-
-enum-told-4 : tie.Need-enum-told-4
-enum-told-4 c = search needs
-
-not-now-requires-4 : tie.Need-not-now-requires-4
-not-now-requires-4 c κs = search needs
-
 returns : tie.Need-returns
 returns c = refuses (c .not-now .ensures) (λ m. rw (c .before .enum-told .given .1))
 
@@ -59,17 +26,17 @@ completion-spec =
     tie.close
     (tie.spec
     enum-told
-    not-now-requires
-    enum-known-state
-    enum-known-sink
-    enum-known-source
-    computed-requires
-    enum-told-2
-    not-now-requires-2
-    enum-told-3
-    not-now-requires-3
-    enum-told-4
-    not-now-requires-4
+    (λ c κs. search needs)
+    (λ c. search needs)
+    (λ c. search needs)
+    (λ c. search needs)
+    (λ c κs. search needs)
+    (λ c. search needs)
+    (λ c κs. search needs)
+    (λ c. search needs)
+    (λ c κs. search needs)
+    (λ c. search needs)
+    (λ c κs. search needs)
     returns
     returns-2
     returns-3

@@ -6,21 +6,6 @@ use Rattle.machine.proofs.change.release.Tie as tie
 enum-told : tie.Need-enum-told
 enum-told c = search needs
 
-not-now-requires : tie.Need-not-now-requires
-not-now-requires c κs = search needs
-
-enum-known-state : tie.Need-enum-known-state
-enum-known-state c = search needs
-
-enum-known-operand : tie.Need-enum-known-operand
-enum-known-operand c = search needs
-
-enum-told-2 : tie.Need-enum-told-2
-enum-told-2 c = search needs
-
-not-now-requires-2 : tie.Need-not-now-requires-2
-not-now-requires-2 c κs = search needs
-
 returns : tie.Need-returns
 returns c = refuses (c .not-now .ensures) (λ m. rw (c .before .enum-told .given .1))
 
@@ -35,11 +20,11 @@ release-spec =
     tie.close
     (tie.spec
     enum-told
-    not-now-requires
-    enum-known-state
-    enum-known-operand
-    enum-told-2
-    not-now-requires-2
+    (λ c κs. search needs)
+    (λ c. search needs)
+    (λ c. search needs)
+    (λ c. search needs)
+    (λ c κs. search needs)
     returns
     returns-2
     returns-3)

@@ -19,38 +19,11 @@ reading c = record {
   form = c .before .form-of .ensures ∙ ap formOf (c .before .before .operation-of .ensures);
 }
 
-not-now-requires : tie.Need-not-now-requires
-not-now-requires c κs = search needs
-
 returns : tie.Need-returns
 returns c = issue-end (c .before .if1 .taken) (c .not-now .ensures)
 
-mul-word : tie.Need-mul-word
-mul-word c = search needs
-
-shared-slice-read-word : tie.Need-shared-slice-read-word
-shared-slice-read-word c = search needs
-
-word-refusal-requires : tie.Need-word-refusal-requires
-word-refusal-requires c κs = search needs
-
 returns-2 : tie.Need-returns-2
 returns-2 c = issue-bad (c .before .before .before .if1 .left) (c .before .word-refusal .ensures) (c .if2 .taken)
-
-r1-of-requires : tie.Need-r1-of-requires
-r1-of-requires c κs = search needs
-
-index-of-requires : tie.Need-index-of-requires
-index-of-requires c κs = search needs
-
-operation-of-requires : tie.Need-operation-of-requires
-operation-of-requires c κs = search needs
-
-form-of-requires : tie.Need-form-of-requires
-form-of-requires c κs = search needs
-
-operand-of-requires : tie.Need-operand-of-requires
-operand-of-requires c κs = search needs
 
 slots-for-requires : tie.Need-slots-for-requires
 slots-for-requires c κs = well-formed (reading c)
@@ -62,16 +35,16 @@ pub issue-spec : {M : Type 1} → statement M
 issue-spec =
     tie.close
     (tie.spec
-    not-now-requires
+    (λ c κs. search needs)
     returns
-    mul-word
-    shared-slice-read-word
-    word-refusal-requires
+    (λ c. search needs)
+    (λ c. search needs)
+    (λ c κs. search needs)
     returns-2
-    r1-of-requires
-    index-of-requires
-    operation-of-requires
-    form-of-requires
-    operand-of-requires
+    (λ c κs. search needs)
+    (λ c κs. search needs)
+    (λ c κs. search needs)
+    (λ c κs. search needs)
+    (λ c κs. search needs)
     slots-for-requires
     returns-3)

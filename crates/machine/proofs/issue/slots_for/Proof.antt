@@ -7,95 +7,8 @@ use Rattle.machine.proofs.issue.slots_for.Tie as tie
 enum-told : tie.Need-enum-told
 enum-told c = search needs
 
-enum-told-2 : tie.Need-enum-told-2
-enum-told-2 c = search needs
-
-lowest-buffer-requires : tie.Need-lowest-buffer-requires
-lowest-buffer-requires c κs = search needs
-
-enum-told-3 : tie.Need-enum-told-3
-enum-told-3 c = search needs
-
-not-now-requires : tie.Need-not-now-requires
-not-now-requires c κs = search needs
-
-enum-known-b : tie.Need-enum-known-b
-enum-known-b c = search needs
-
-enum-told-4 : tie.Need-enum-told-4
-enum-told-4 c = search needs
-
-index-of-requires : tie.Need-index-of-requires
-index-of-requires c κs = search needs
-
-enum-known-form : tie.Need-enum-known-form
-enum-known-form c = search needs
-
-lowest-buffer-requires-2 : tie.Need-lowest-buffer-requires-2
-lowest-buffer-requires-2 c κs = search needs
-
-enum-told-5 : tie.Need-enum-told-5
-enum-told-5 c = search needs
-
-not-now-requires-2 : tie.Need-not-now-requires-2
-not-now-requires-2 c κs = search needs
-
-enum-known-b-2 : tie.Need-enum-known-b-2
-enum-known-b-2 c = search needs
-
-lowest-station-requires : tie.Need-lowest-station-requires
-lowest-station-requires c κs = search needs
-
-enum-told-6 : tie.Need-enum-told-6
-enum-told-6 c = search needs
-
-not-now-requires-3 : tie.Need-not-now-requires-3
-not-now-requires-3 c κs = search needs
-
-enum-known-s : tie.Need-enum-known-s
-enum-known-s c = search needs
-
-enum-known-form-2 : tie.Need-enum-known-form-2
-enum-known-form-2 c = search needs
-
-lowest-station-requires-2 : tie.Need-lowest-station-requires-2
-lowest-station-requires-2 c κs = search needs
-
-enum-told-7 : tie.Need-enum-told-7
-enum-told-7 c = search needs
-
-not-now-requires-4 : tie.Need-not-now-requires-4
-not-now-requires-4 c κs = search needs
-
-enum-known-s-2 : tie.Need-enum-known-s-2
-enum-known-s-2 c = search needs
-
-index-of-requires-2 : tie.Need-index-of-requires-2
-index-of-requires-2 c κs = search needs
-
-enum-told-8 : tie.Need-enum-told-8
-enum-told-8 c = search needs
-
-cell-live-requires : tie.Need-cell-live-requires
-cell-live-requires c κs = search needs
-
-not-now-requires-5 : tie.Need-not-now-requires-5
-not-now-requires-5 c κs = search needs
-
 returns : tie.Need-returns
 returns c = let s = c .before .before .before .before .before in let a = s .args in store-twice (a .form) (a .r) (a .operand) (c .before .before .before .enum-told8 .given .1) (sym (c .before .before .cell-live .ensures) ∙ c .before .if1 .taken) (c .not-now5 .ensures)
-
-lowest-store-requires : tie.Need-lowest-store-requires
-lowest-store-requires c κs = search needs
-
-enum-told-9 : tie.Need-enum-told-9
-enum-told-9 c = search needs
-
-not-now-requires-6 : tie.Need-not-now-requires-6
-not-now-requires-6 c κs = search needs
-
-enum-known-t : tie.Need-enum-known-t
-enum-known-t c = search needs
 
 returns-2 : tie.Need-returns-2
 returns-2 c = let s = c .before .before in let a = s .args in no-operation (a .form) (a .r) (a .operand) (c .enum-told .given .1)
@@ -135,36 +48,36 @@ slots-for-spec =
     tie.close
     (tie.spec
     enum-told
-    enum-told-2
-    lowest-buffer-requires
-    enum-told-3
-    not-now-requires
-    enum-known-b
-    enum-told-4
-    index-of-requires
-    enum-known-form
-    lowest-buffer-requires-2
-    enum-told-5
-    not-now-requires-2
-    enum-known-b-2
-    lowest-station-requires
-    enum-told-6
-    not-now-requires-3
-    enum-known-s
-    enum-known-form-2
-    lowest-station-requires-2
-    enum-told-7
-    not-now-requires-4
-    enum-known-s-2
-    index-of-requires-2
-    enum-told-8
-    cell-live-requires
-    not-now-requires-5
+    (λ c. search needs)
+    (λ c κs. search needs)
+    (λ c. search needs)
+    (λ c κs. search needs)
+    (λ c. search needs)
+    (λ c. search needs)
+    (λ c κs. search needs)
+    (λ c. search needs)
+    (λ c κs. search needs)
+    (λ c. search needs)
+    (λ c κs. search needs)
+    (λ c. search needs)
+    (λ c κs. search needs)
+    (λ c. search needs)
+    (λ c κs. search needs)
+    (λ c. search needs)
+    (λ c. search needs)
+    (λ c κs. search needs)
+    (λ c. search needs)
+    (λ c κs. search needs)
+    (λ c. search needs)
+    (λ c κs. search needs)
+    (λ c. search needs)
+    (λ c κs. search needs)
+    (λ c κs. search needs)
     returns
-    lowest-store-requires
-    enum-told-9
-    not-now-requires-6
-    enum-known-t
+    (λ c κs. search needs)
+    (λ c. search needs)
+    (λ c κs. search needs)
+    (λ c. search needs)
     returns-2
     returns-3
     returns-4

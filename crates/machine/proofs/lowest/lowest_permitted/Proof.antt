@@ -46,15 +46,6 @@ abbrev μ-loop : tie.MeasureT-loop
 loop-holds : tie.Need-loop-holds Inv-loop μ-loop
 loop-holds c = searching-none _ 80
 
-cast-t9 : tie.Need-cast-t9 Inv-loop μ-loop
-cast-t9 c = search needs
-
-slice-aggregate-taking : tie.Need-slice-aggregate-taking Inv-loop μ-loop
-slice-aggregate-taking c = search needs
-
-taking-requires : tie.Need-taking-requires Inv-loop μ-loop
-taking-requires c κs = search needs
-
 returns : tie.Need-returns Inv-loop μ-loop
 returns c =
     let k = c .before .before in
@@ -64,12 +55,6 @@ returns c =
     (lowest-is (a .m) (a .words .now) (a .operands .now) (a .results)
     ∙ searching-found _ (l .loop .inv) (k .before .before .loop-test .taken)
     (sym (permitted (k .taking .result) (a .m) (a .words .now) (a .operands .now) (a .results) (l .loop .code) (omega (arith, k .before .before .loop-test .taken)) (k .taking .ensures)) ∙ eq-eqb _ 0 (c .if1 .taken)))
-
-add-code : tie.Need-add-code Inv-loop μ-loop
-add-code c = search needs
-
-loop-less : tie.Need-loop-less Inv-loop μ-loop
-loop-less c = search needs
 
 loop-again : tie.Need-loop-again Inv-loop μ-loop
 loop-again c =
@@ -91,11 +76,11 @@ lowest-permitted-spec =
     Inv-loop
     μ-loop
     loop-holds
-    cast-t9
-    slice-aggregate-taking
-    taking-requires
+    (λ c. search needs)
+    (λ c. search needs)
+    (λ c κs. search needs)
     returns
-    add-code
-    loop-less
+    (λ c. search needs)
+    (λ c. search needs)
     loop-again
     returns-2)

@@ -17,16 +17,10 @@ start v = v .before .before .before .before
 abbrev lent-to : tie.After-check-list-against → Lent Float
 lent-to v = let a = start v .args in lent (a .words .now) (a .operands .now) (a .results .now)
 
-check-list-against-requires : tie.Need-check-list-against-requires
-check-list-against-requires c κs = search needs
-
 returns : tie.Need-returns
 returns c =
     let v = c .before in
     lowest-refused binary64 (lent-to v) (v .check-list-against .ensures) (c .if1 .taken) (view (start v .args .m))
-
-in-good-order-requires : tie.Need-in-good-order-requires
-in-good-order-requires c κs = search needs
 
 returns-2 : tie.Need-returns-2
 returns-2 c =
@@ -34,9 +28,6 @@ returns-2 c =
     let v = g .before .before in
     lowest-disordered binary64 (lent-to v) (v .check-list-against .ensures) (g .before .if1 .left) (view (start v .args .m))
     (sym (g .in-good-order .ensures) ∙ not-true _ (c .if2 .taken))
-
-lowest-permitted-requires : tie.Need-lowest-permitted-requires
-lowest-permitted-requires c κs = search needs
 
 returns-3 : tie.Need-returns-3
 returns-3 c =
@@ -51,9 +42,9 @@ pub lowest-step-spec : {M : Type 1} → statement M
 lowest-step-spec =
     tie.close
     (tie.spec
-    check-list-against-requires
+    (λ c κs. search needs)
     returns
-    in-good-order-requires
+    (λ c κs. search needs)
     returns-2
-    lowest-permitted-requires
+    (λ c κs. search needs)
     returns-3)

@@ -6,41 +6,14 @@ use borrow.Author.Needs.{needs}
 use Rattle.machine.proofs.step.step.Statement.{statement}
 use Rattle.machine.proofs.step.step.Tie as tie
 
-refused-requires : tie.Need-refused-requires
-refused-requires c κs = search needs
-
 returns : tie.Need-returns
 returns c = too-long _ _ _ _ _ (c .before .if1 .taken) (c .refused .ensures)
-
-in-good-order-requires : tie.Need-in-good-order-requires
-in-good-order-requires c κs = search needs
-
-refused-requires-2 : tie.Need-refused-requires-2
-refused-requires-2 c κs = search needs
 
 returns-2 : tie.Need-returns-2
 returns-2 c = let g = c .before .before in disordered _ _ _ _ _ (g .before .if1 .left) (sym (g .in-good-order .ensures) ∙ not-true _ (c .before .if2 .taken)) (c .refused2 .ensures)
 
-refused-requires-3 : tie.Need-refused-requires-3
-refused-requires-3 c κs = search needs
-
 returns-3 : tie.Need-returns-3
 returns-3 c = unknown _ _ _ _ _ (c .before .before .before .before .if1 .left) (sym (c .before .before .before .in-good-order .ensures) ∙ not-false _ (c .before .before .if2 .left)) (c .before .if3 .taken) (c .refused3 .ensures)
-
-cast-t15 : tie.Need-cast-t15
-cast-t15 c = search needs
-
-slice-aggregate-taking : tie.Need-slice-aggregate-taking
-slice-aggregate-taking c = search needs
-
-taking-requires : tie.Need-taking-requires
-taking-requires c κs = search needs
-
-write-released-requires : tie.Need-write-released-requires
-write-released-requires c κs = search needs
-
-same-length : tie.Need-same-length
-same-length c = search needs
 
 returns-4 : tie.Need-returns-4
 returns-4 c = performed _ _ _ _ _ (c .before .before .before .before .before .before .before .before .before .before .if1 .left) (sym (c .before .before .before .before .before .before .before .before .before .in-good-order .ensures) ∙ not-false _ (c .before .before .before .before .before .before .before .before .if2 .left)) (stepped-is _ _ _ (c .before .before .before .before .before .taking .result) (c .before .before .before .before .before .taking .ensures) (omega arith)) (c .before .before .write-released .ensures)
@@ -49,16 +22,16 @@ pub step-spec : {M : Type 1} → statement M
 step-spec =
     tie.close
     (tie.spec
-    refused-requires
+    (λ c κs. search needs)
     returns
-    in-good-order-requires
-    refused-requires-2
+    (λ c κs. search needs)
+    (λ c κs. search needs)
     returns-2
-    refused-requires-3
+    (λ c κs. search needs)
     returns-3
-    cast-t15
-    slice-aggregate-taking
-    taking-requires
-    write-released-requires
-    same-length
+    (λ c. search needs)
+    (λ c. search needs)
+    (λ c κs. search needs)
+    (λ c κs. search needs)
+    (λ c. search needs)
     returns-4)

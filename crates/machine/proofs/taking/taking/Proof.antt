@@ -293,14 +293,8 @@ element-set-from-n-12 c = omega (arith, high-tag _ (names (known (c .before .bef
 loop2-holds : tie.Need-loop2-holds Inv-loop2 μ-loop2 Inv-loop3 μ-loop3 Inv-loop4 μ-loop4 Inv-loop μ-loop
 loop2-holds c = (search needs, giving-none)
 
-loop2-less : tie.Need-loop2-less Inv-loop2 μ-loop2 Inv-loop3 μ-loop3 Inv-loop4 μ-loop4 Inv-loop μ-loop
-loop2-less c = search needs
-
 loop2-again : tie.Need-loop2-again Inv-loop2 μ-loop2 Inv-loop3 μ-loop3 Inv-loop4 μ-loop4 Inv-loop μ-loop
 loop2-again c = (omega arith, register-kept (record { operand = Number nan }) (c .before .before .before .before .loop2 .inv .1) (sym (c .before .register-waits .ensures) ∙ not-true _ (c .if2 .taken)))
-
-loop2-less-2 : tie.Need-loop2-less-2 Inv-loop2 μ-loop2 Inv-loop3 μ-loop3 Inv-loop4 μ-loop4 Inv-loop μ-loop
-loop2-less-2 c = search needs
 
 loop2-again-2 : tie.Need-loop2-again-2 Inv-loop2 μ-loop2 Inv-loop3 μ-loop3 Inv-loop4 μ-loop4 Inv-loop μ-loop
 loop2-again-2 c = (omega arith, register-given (record { operand = Number nan }) (c .before .before .before .before .before .before .loop2 .inv .1) (c .given-register .result) (c .given-register .ensures))
@@ -308,14 +302,8 @@ loop2-again-2 c = (omega arith, register-given (record { operand = Number nan })
 loop3-holds : tie.Need-loop3-holds Inv-loop2 μ-loop2 Inv-loop3 μ-loop3 Inv-loop4 μ-loop4 Inv-loop μ-loop
 loop3-holds c = (search needs, giving-none)
 
-loop3-less : tie.Need-loop3-less Inv-loop2 μ-loop2 Inv-loop3 μ-loop3 Inv-loop4 μ-loop4 Inv-loop μ-loop
-loop3-less c = search needs
-
 loop3-again : tie.Need-loop3-again Inv-loop2 μ-loop2 Inv-loop3 μ-loop3 Inv-loop4 μ-loop4 Inv-loop μ-loop
 loop3-again c = (omega arith, station-kept (record { state = station.Free }) (c .before .before .before .before .loop3 .inv .1) (sym (c .before .station-waits .ensures) ∙ not-true _ (c .if3 .taken)))
-
-loop3-less-2 : tie.Need-loop3-less-2 Inv-loop2 μ-loop2 Inv-loop3 μ-loop3 Inv-loop4 μ-loop4 Inv-loop μ-loop
-loop3-less-2 c = search needs
 
 loop3-again-2 : tie.Need-loop3-again-2 Inv-loop2 μ-loop2 Inv-loop3 μ-loop3 Inv-loop4 μ-loop4 Inv-loop μ-loop
 loop3-again-2 c = (omega arith, station-given (record { state = station.Free }) (c .before .before .before .before .before .before .loop3 .inv .1) (c .given-station .result) (c .given-station .ensures))
@@ -323,14 +311,8 @@ loop3-again-2 c = (omega arith, station-given (record { state = station.Free }) 
 loop4-holds : tie.Need-loop4-holds Inv-loop2 μ-loop2 Inv-loop3 μ-loop3 Inv-loop4 μ-loop4 Inv-loop μ-loop
 loop4-holds c = (search needs, giving-none)
 
-loop4-less : tie.Need-loop4-less Inv-loop2 μ-loop2 Inv-loop3 μ-loop3 Inv-loop4 μ-loop4 Inv-loop μ-loop
-loop4-less c = search needs
-
 loop4-again : tie.Need-loop4-again Inv-loop2 μ-loop2 Inv-loop3 μ-loop3 Inv-loop4 μ-loop4 Inv-loop μ-loop
 loop4-again c = (omega arith, store-kept (record { state = store.Free }) (c .before .before .before .before .loop4 .inv .1) (sym (c .before .store-waits .ensures) ∙ not-true _ (c .if4 .taken)))
-
-loop4-less-2 : tie.Need-loop4-less-2 Inv-loop2 μ-loop2 Inv-loop3 μ-loop3 Inv-loop4 μ-loop4 Inv-loop μ-loop
-loop4-less-2 c = search needs
 
 loop4-again-2 : tie.Need-loop4-again-2 Inv-loop2 μ-loop2 Inv-loop3 μ-loop3 Inv-loop4 μ-loop4 Inv-loop μ-loop
 loop4-again-2 c = (omega arith, store-given (record { state = store.Free }) (c .before .before .before .before .before .before .loop4 .inv .1) (c .given-store .result) (c .given-store .ensures))
@@ -520,7 +502,7 @@ taking-spec =
     (λ c. search needs)
     (λ c κs. search needs)
     (λ c. search needs)
-    loop2-less
+    (λ c. search needs)
     loop2-again
     (λ c. search needs)
     (λ c. search needs)
@@ -528,14 +510,14 @@ taking-spec =
     (λ c. search needs)
     (λ c. search needs)
     (λ c. search needs)
-    loop2-less-2
+    (λ c. search needs)
     loop2-again-2
     loop3-holds
     (λ c. search needs)
     (λ c. search needs)
     (λ c κs. search needs)
     (λ c. search needs)
-    loop3-less
+    (λ c. search needs)
     loop3-again
     (λ c. search needs)
     (λ c. search needs)
@@ -543,14 +525,14 @@ taking-spec =
     (λ c. search needs)
     (λ c. search needs)
     (λ c. search needs)
-    loop3-less-2
+    (λ c. search needs)
     loop3-again-2
     loop4-holds
     (λ c. search needs)
     (λ c. search needs)
     (λ c κs. search needs)
     (λ c. search needs)
-    loop4-less
+    (λ c. search needs)
     loop4-again
     (λ c. search needs)
     (λ c. search needs)
@@ -558,7 +540,7 @@ taking-spec =
     (λ c. search needs)
     (λ c. search needs)
     (λ c. search needs)
-    loop4-less-2
+    (λ c. search needs)
     loop4-again-2
     (λ c. search needs)
     (λ c κs. search needs)

@@ -12,9 +12,6 @@ put-decimal-requires c κs =
     let s = c .before .before in
     room-in 20 (decimal (s .args .number)) (omega (arith, s .pre)) (decimal-size (s .args .number) (omega arith))
 
-slice-aggregate-put-text : tie.Need-slice-aggregate-put-text
-slice-aggregate-put-text c = search needs
-
 put-text-requires : tie.Need-put-text-requires
 put-text-requires c κs =
     let s = c .before .before .before .before .before .before .before in
@@ -25,16 +22,10 @@ put-decimal-requires-2 c κs =
     let s = c .before .before .before .before .before .before .before .before .before .before .before in
     room-in 20 (decimal (s .args .place)) (left-room 45 20 (s .pre) (in-then (within 20 (c .before .before .before .before .before .before .before .before .put-decimal .ensures) (decimal-size (s .args .number) (omega arith))) (within 4 (c .before .before .before .put-text .ensures) (omega arith))) (omega arith)) (decimal-size (s .args .place) (omega arith))
 
-slice-aggregate-put-text-2 : tie.Need-slice-aggregate-put-text-2
-slice-aggregate-put-text-2 c = search needs
-
 put-text-requires-2 : tie.Need-put-text-requires-2
 put-text-requires-2 c κs =
     let s = c .before .before .before .before .before .before .before .before .before .before .before .before .before .before .before .before in
     room-in 1 lineEnd (left-room 45 1 (s .pre) (in-then (in-then (within 20 (c .before .before .before .before .before .before .before .before .before .before .before .before .before .put-decimal .ensures) (decimal-size (s .args .number) (omega arith))) (within 4 (c .before .before .before .before .before .before .before .before .put-text .ensures) (omega arith))) (within 20 (c .before .before .before .before .put-decimal2 .ensures) (decimal-size (s .args .place) (omega arith)))) (omega arith)) (omega arith)
-
-same-length : tie.Need-same-length
-same-length c = search needs
 
 returns : tie.Need-returns
 returns c =
@@ -46,10 +37,10 @@ put-answer-spec =
     tie.close
     (tie.spec
     put-decimal-requires
-    slice-aggregate-put-text
+    (λ c. search needs)
     put-text-requires
     put-decimal-requires-2
-    slice-aggregate-put-text-2
+    (λ c. search needs)
     put-text-requires-2
-    same-length
+    (λ c. search needs)
     returns)

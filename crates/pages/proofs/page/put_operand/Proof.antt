@@ -7,30 +7,15 @@ use Rattle.pages.proofs.Putting.{within, room-in}
 use Rattle.pages.proofs.page.put_operand.Statement.{statement}
 use Rattle.pages.proofs.page.put_operand.Tie as tie
 
-enum-known-operand : tie.Need-enum-known-operand
-enum-known-operand c = search needs
-
 put-pattern-requires : tie.Need-put-pattern-requires
 put-pattern-requires c κs =
     let n = c .before .before .operand .given .0 .0 in
     room-in 24 (pattern (patternOf n)) (c .before .before .before .before .before .pre) (omega (arith, pattern-size (patternOf n)))
 
-enum-known-operand-2 : tie.Need-enum-known-operand-2
-enum-known-operand-2 c = search needs
-
-put-tag-requires : tie.Need-put-tag-requires
-put-tag-requires c κs = search needs
-
-same-length : tie.Need-same-length
-same-length c = search needs
-
 returns : tie.Need-returns
 returns c =
     let p = c .before .before .put-pattern .ensures in
     rw (c .before .before .before .before .before .operand .given .1) (within 24 p (omega (arith, pattern-size (patternOf (c .before .before .before .before .before .operand .given .0 .0)))))
-
-same-length-2 : tie.Need-same-length-2
-same-length-2 c = search needs
 
 returns-2 : tie.Need-returns-2
 returns-2 c = rw (c .before .before .before .before .before .operand2 .given .1) (c .before .before .put-tag .ensures)
@@ -39,11 +24,11 @@ pub put-operand-spec : {M : Type 1} → statement M
 put-operand-spec =
     tie.close
     (tie.spec
-    enum-known-operand
+    (λ c. search needs)
     put-pattern-requires
-    enum-known-operand-2
-    put-tag-requires
-    same-length
+    (λ c. search needs)
+    (λ c κs. search needs)
+    (λ c. search needs)
     returns
-    same-length-2
+    (λ c. search needs)
     returns-2)

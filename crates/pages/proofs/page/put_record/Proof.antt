@@ -15,9 +15,6 @@ put-decimal-requires c κs =
     let s = c .before .before in
     room-in 20 (decimal (s .args .released .place)) (omega (arith, s .pre)) (decimal-size (s .args .released .place) (omega (arith, s .good .1 .1 .0)))
 
-slice-aggregate-put-text : tie.Need-slice-aggregate-put-text
-slice-aggregate-put-text c = search needs
-
 put-text-requires : tie.Need-put-text-requires
 unfolding recordLine
 put-text-requires c κs =
@@ -29,9 +26,6 @@ unfolding recordLine
 put-decimal-requires-2 c κs =
     let s = c .before .before .before .before .before .before .before .before .before .before .before in
     room-in 20 (decimal (s .args .released .cell)) (left-room 59 20 (s .pre) (in-then (within 20 (c .before .before .before .before .before .before .before .before .put-decimal .ensures) (decimal-size (s .args .released .place) (omega (arith, s .good .1 .1 .0)))) (within 1 (c .before .before .before .put-text .ensures) (omega arith))) (omega arith)) (decimal-size (s .args .released .cell) (omega (arith, s .good .1 .1 .0)))
-
-slice-aggregate-put-text-2 : tie.Need-slice-aggregate-put-text-2
-slice-aggregate-put-text-2 c = search needs
 
 put-text-requires-2 : tie.Need-put-text-requires-2
 unfolding recordLine
@@ -45,17 +39,11 @@ put-pattern-requires c κs =
     let s = c .before .before .before .before .before .before .before .before .before .before .before .before .before .before .before .before .before .before .before .before in
     room-in 16 (pattern (patternOf (s .args .released .number))) (left-room 59 16 (s .pre) (in-then (in-then (in-then (within 20 (c .before .before .before .before .before .before .before .before .before .before .before .before .before .before .before .before .before .put-decimal .ensures) (decimal-size (s .args .released .place) (omega (arith, s .good .1 .1 .0)))) (within 1 (c .before .before .before .before .before .before .before .before .before .before .before .before .put-text .ensures) (omega arith))) (within 20 (c .before .before .before .before .before .before .before .before .put-decimal2 .ensures) (decimal-size (s .args .released .cell) (omega (arith, s .good .1 .1 .0))))) (within 1 (c .before .before .before .put-text2 .ensures) (omega arith))) (omega arith)) (omega (arith, pattern-size (patternOf (s .args .released .number))))
 
-slice-aggregate-put-text-3 : tie.Need-slice-aggregate-put-text-3
-slice-aggregate-put-text-3 c = search needs
-
 put-text-requires-3 : tie.Need-put-text-requires-3
 unfolding recordLine
 put-text-requires-3 c κs =
     let s = c .before .before .before .before .before .before .before .before .before .before .before .before .before .before .before .before .before .before .before .before .before .before .before .before .before in
     room-in 1 lineEnd (left-room 59 1 (s .pre) (in-then (in-then (in-then (in-then (within 20 (c .before .before .before .before .before .before .before .before .before .before .before .before .before .before .before .before .before .before .before .before .before .before .put-decimal .ensures) (decimal-size (s .args .released .place) (omega (arith, s .good .1 .1 .0)))) (within 1 (c .before .before .before .before .before .before .before .before .before .before .before .before .before .before .before .before .before .put-text .ensures) (omega arith))) (within 20 (c .before .before .before .before .before .before .before .before .before .before .before .before .before .put-decimal2 .ensures) (decimal-size (s .args .released .cell) (omega (arith, s .good .1 .1 .0))))) (within 1 (c .before .before .before .before .before .before .before .before .put-text2 .ensures) (omega arith))) (within 16 (c .before .before .before .before .put-pattern .ensures) (omega (arith, pattern-size (patternOf (s .args .released .number)))))) (omega arith)) (omega arith)
-
-same-length : tie.Need-same-length
-same-length c = search needs
 
 returns : tie.Need-returns
 unfolding recordLine
@@ -68,13 +56,13 @@ put-record-spec =
     tie.close
     (tie.spec
     put-decimal-requires
-    slice-aggregate-put-text
+    (λ c. search needs)
     put-text-requires
     put-decimal-requires-2
-    slice-aggregate-put-text-2
+    (λ c. search needs)
     put-text-requires-2
     put-pattern-requires
-    slice-aggregate-put-text-3
+    (λ c. search needs)
     put-text-requires-3
-    same-length
+    (λ c. search needs)
     returns)

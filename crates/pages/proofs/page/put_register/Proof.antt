@@ -8,20 +8,11 @@ use Rattle.pages.proofs.Putting.{within, in-then, left-room, room-in}
 use Rattle.pages.proofs.page.put_register.Statement.{statement}
 use Rattle.pages.proofs.page.put_register.Tie as tie
 
-slice-aggregate-put-text : tie.Need-slice-aggregate-put-text
-slice-aggregate-put-text c = search needs
-
-put-text-requires : tie.Need-put-text-requires
-put-text-requires c κs = search needs
-
 put-decimal-requires : tie.Need-put-decimal-requires
 unfolding registerLine
 put-decimal-requires c κs =
     let s = c .before .before .before .before .before .before .before in
     room-in 20 (decimal (s .args .number)) (left-room 47 20 (s .pre) (within 1 (c .before .before .before .put-text .ensures) (omega arith)) (omega arith)) (decimal-size (s .args .number) (omega arith))
-
-slice-aggregate-put-text-2 : tie.Need-slice-aggregate-put-text-2
-slice-aggregate-put-text-2 c = search needs
 
 put-text-requires-2 : tie.Need-put-text-requires-2
 unfolding registerLine
@@ -35,17 +26,11 @@ put-operand-requires c κs =
     let s = c .before .before .before .before .before .before .before .before .before .before .before .before .before .before .before .before in
     (left-room 47 24 (s .pre) (in-then (in-then (within 1 (c .before .before .before .before .before .before .before .before .before .before .before .before .put-text .ensures) (omega arith)) (within 20 (c .before .before .before .before .before .before .before .before .put-decimal .ensures) (decimal-size (s .args .number) (omega arith)))) (within 1 (c .before .before .before .put-text2 .ensures) (omega arith))) (omega arith))
 
-slice-aggregate-put-text-3 : tie.Need-slice-aggregate-put-text-3
-slice-aggregate-put-text-3 c = search needs
-
 put-text-requires-3 : tie.Need-put-text-requires-3
 unfolding registerLine
 put-text-requires-3 c κs =
     let s = c .before .before .before .before .before .before .before .before .before .before .before .before .before .before .before .before .before .before .before .before .before in
     room-in 1 lineEnd (left-room 47 1 (s .pre) (in-then (in-then (in-then (within 1 (c .before .before .before .before .before .before .before .before .before .before .before .before .before .before .before .before .before .put-text .ensures) (omega arith)) (within 20 (c .before .before .before .before .before .before .before .before .before .before .before .before .before .put-decimal .ensures) (decimal-size (s .args .number) (omega arith)))) (within 1 (c .before .before .before .before .before .before .before .before .put-text2 .ensures) (omega arith))) (c .before .before .before .before .put-operand .ensures)) (omega arith)) (omega arith)
-
-same-length : tie.Need-same-length
-same-length c = search needs
 
 returns : tie.Need-returns
 unfolding registerLine
@@ -57,13 +42,13 @@ pub put-register-spec : {M : Type 1} → statement M
 put-register-spec =
     tie.close
     (tie.spec
-    slice-aggregate-put-text
-    put-text-requires
+    (λ c. search needs)
+    (λ c κs. search needs)
     put-decimal-requires
-    slice-aggregate-put-text-2
+    (λ c. search needs)
     put-text-requires-2
     put-operand-requires
-    slice-aggregate-put-text-3
+    (λ c. search needs)
     put-text-requires-3
-    same-length
+    (λ c. search needs)
     returns)

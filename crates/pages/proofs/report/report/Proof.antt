@@ -11,39 +11,15 @@ use Rattle.pages.proofs.report.report.Tie as tie
 returns : tie.Need-returns
 returns c = printed-none _ (c .if1 .taken)
 
-slice-aggregate-begin : tie.Need-slice-aggregate-begin
-slice-aggregate-begin c = search needs
-
-slice-aggregate-begin-2 : tie.Need-slice-aggregate-begin-2
-slice-aggregate-begin-2 c = search needs
-
-begin-requires : tie.Need-begin-requires
-begin-requires c κs = search needs
-
-stops-requires : tie.Need-stops-requires
-stops-requires c κs = search needs
-
-put-stop-requires : tie.Need-put-stop-requires
-put-stop-requires c κs = search needs
-
-same-length : tie.Need-same-length
-same-length c = search needs
-
 returns-2 : tie.Need-returns-2
 returns-2 c =
     let a = c .before .before .before .before .before .before .before .before .before .before .before .before .before .before .before .before .args in
     rw (stop-text (a .named) (a .list .now) (a .operands .now) (a .schedule .now) (c .before .before .before .before .before .before .before .before .begin .ensures) (sym (c .before .before .before .before .before .stops .ensures) ∙ c .before .before .before .before .if2 .taken)) (printed-put (c .before .before .before .before .before .before .before .before .before .before .before .if1 .left) (c .before .before .put-stop .ensures))
 
-array-share-prefix-words : tie.Need-array-share-prefix-words
-array-share-prefix-words c = search needs
-
 slice-aggregate-ran : tie.Need-slice-aggregate-ran
 slice-aggregate-ran c =
     let r = c .before .before .before .before .before .before .begin in
     sym (length-take-le (r .result .words) (r .last .1 .1 .1 .1 .0) (omega (arith, r .ensures .fewWords, r .kept .1 .1 .1 .1 .0)))
-
-array-share-prefix-cells : tie.Need-array-share-prefix-cells
-array-share-prefix-cells c = search needs
 
 slice-aggregate-ran-2 : tie.Need-slice-aggregate-ran-2
 slice-aggregate-ran-2 c =
@@ -52,9 +28,6 @@ slice-aggregate-ran-2 c =
 
 ran-requires : tie.Need-ran-requires
 ran-requires c κs = c .before .before .before .before .before .before .before .before .before .before .if1 .left
-
-same-length-2 : tie.Need-same-length-2
-same-length-2 c = search needs
 
 returns-3 : tie.Need-returns-3
 returns-3 c =
@@ -67,17 +40,17 @@ report-spec =
     tie.close
     (tie.spec
     returns
-    slice-aggregate-begin
-    slice-aggregate-begin-2
-    begin-requires
-    stops-requires
-    put-stop-requires
-    same-length
+    (λ c. search needs)
+    (λ c. search needs)
+    (λ c κs. search needs)
+    (λ c κs. search needs)
+    (λ c κs. search needs)
+    (λ c. search needs)
     returns-2
-    array-share-prefix-words
+    (λ c. search needs)
     slice-aggregate-ran
-    array-share-prefix-cells
+    (λ c. search needs)
     slice-aggregate-ran-2
     ran-requires
-    same-length-2
+    (λ c. search needs)
     returns-3)

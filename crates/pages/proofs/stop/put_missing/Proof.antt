@@ -5,9 +5,6 @@ use Rattle.pages.proofs.Putting.{in-more, within, in-then, left-room, r
 use Rattle.pages.proofs.stop.put_missing.Statement.{statement}
 use Rattle.pages.proofs.stop.put_missing.Tie as tie
 
-slice-aggregate-put-text : tie.Need-slice-aggregate-put-text
-slice-aggregate-put-text c = search needs
-
 put-text-requires : tie.Need-put-text-requires
 put-text-requires c κs =
     let s = c .before .before .before .before in
@@ -18,24 +15,15 @@ put-text-requires-2 c κs =
     let s = c .before .before .before .before .before .before .before .before in
     room-in 8 (s .args .name .now) (left-room 131072 8 (s .pre .1) (within 8 (c .before .before .before .put-text .ensures) (omega arith)) (omega arith)) (s .pre .0)
 
-slice-aggregate-put-text-2 : tie.Need-slice-aggregate-put-text-2
-slice-aggregate-put-text-2 c = search needs
-
 put-text-requires-3 : tie.Need-put-text-requires-3
 put-text-requires-3 c κs =
     let s = c .before .before .before .before .before .before .before .before .before .before .before .before .before in
     room-in 8 missing (left-room 131072 8 (s .pre .1) (in-then (within 8 (c .before .before .before .before .before .before .before .before .put-text .ensures) (omega arith)) (within 8 (c .before .before .before .before .put-text2 .ensures) (s .pre .0))) (omega arith)) (omega arith)
 
-slice-aggregate-put-text-3 : tie.Need-slice-aggregate-put-text-3
-slice-aggregate-put-text-3 c = search needs
-
 put-text-requires-4 : tie.Need-put-text-requires-4
 put-text-requires-4 c κs =
     let s = c .before .before .before .before .before .before .before .before .before .before .before .before .before .before .before .before .before .before in
     room-in 1 lineEnd (left-room 131072 1 (s .pre .1) (in-then (in-then (within 8 (c .before .before .before .before .before .before .before .before .before .before .before .before .before .put-text .ensures) (omega arith)) (within 8 (c .before .before .before .before .before .before .before .before .before .put-text2 .ensures) (s .pre .0))) (within 8 (c .before .before .before .before .put-text3 .ensures) (omega arith))) (omega arith)) (omega arith)
-
-same-length : tie.Need-same-length
-same-length c = search needs
 
 returns : tie.Need-returns
 returns c =
@@ -46,12 +34,12 @@ pub put-missing-spec : {M : Type 1} → statement M
 put-missing-spec =
     tie.close
     (tie.spec
-    slice-aggregate-put-text
+    (λ c. search needs)
     put-text-requires
     put-text-requires-2
-    slice-aggregate-put-text-2
+    (λ c. search needs)
     put-text-requires-3
-    slice-aggregate-put-text-3
+    (λ c. search needs)
     put-text-requires-4
-    same-length
+    (λ c. search needs)
     returns)

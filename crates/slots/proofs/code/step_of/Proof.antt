@@ -4,21 +4,6 @@ use borrow.Author.Needs.{needs}
 use Rattle.slots.proofs.code.step_of.Statement.{statement}
 use Rattle.slots.proofs.code.step_of.Tie as tie
 
-cast-t5 : tie.Need-cast-t5
-cast-t5 c = search needs
-
-cast-t7 : tie.Need-cast-t7
-cast-t7 c = search needs
-
-cast-t9 : tie.Need-cast-t9
-cast-t9 c = search needs
-
-cast-t11 : tie.Need-cast-t11
-cast-t11 c = search needs
-
-cast-t13 : tie.Need-cast-t13
-cast-t13 c = search needs
-
 returns : tie.Need-returns
 returns c = read-issue _ (c .match .keys1)
 
@@ -59,11 +44,11 @@ pub step-of-spec : {M : Type 1} → statement M
 step-of-spec =
     tie.close
     (tie.spec
-    cast-t5
-    cast-t7
-    cast-t9
-    cast-t11
-    cast-t13
+    (λ c. search needs)
+    (λ c. search needs)
+    (λ c. search needs)
+    (λ c. search needs)
+    (λ c. search needs)
     returns
     returns-2
     returns-3

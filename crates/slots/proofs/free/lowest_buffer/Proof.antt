@@ -29,23 +29,8 @@ tested c = ap isFreeBuffer (seen viewBuffer (c .before .before .before .before .
 loop-holds : tie.Need-loop-holds Inv-loop μ-loop
 loop-holds c = looking-none (test (c .args .t1)) 6
 
-mul-buffer-free : tie.Need-mul-buffer-free Inv-loop μ-loop
-mul-buffer-free c = search needs
-
-array-copy-out-buffer-free : tie.Need-array-copy-out-buffer-free Inv-loop μ-loop
-array-copy-out-buffer-free c = search needs
-
-buffer-free-requires : tie.Need-buffer-free-requires Inv-loop μ-loop
-buffer-free-requires c κs = search needs
-
 returns : tie.Need-returns Inv-loop μ-loop
 returns c = looking-found (test (c .before .before .before .before .before .args .t1)) 6 _ (c .before .before .before .before .loop .inv) (omega arith) (tested (c .before) ∙ c .if1 .taken)
-
-add-i : tie.Need-add-i Inv-loop μ-loop
-add-i c = search needs
-
-loop-less : tie.Need-loop-less Inv-loop μ-loop
-loop-less c = search needs
 
 loop-again : tie.Need-loop-again Inv-loop μ-loop
 loop-again c = looking-more (test (c .before .before .before .before .before .args .t1)) 6 _ (c .before .before .before .before .loop .inv) (omega arith) (tested (c .before) ∙ c .if1 .left)
@@ -60,11 +45,11 @@ lowest-buffer-spec =
     Inv-loop
     μ-loop
     loop-holds
-    mul-buffer-free
-    array-copy-out-buffer-free
-    buffer-free-requires
+    (λ c. search needs)
+    (λ c. search needs)
+    (λ c κs. search needs)
     returns
-    add-i
-    loop-less
+    (λ c. search needs)
+    (λ c. search needs)
     loop-again
     returns-2)

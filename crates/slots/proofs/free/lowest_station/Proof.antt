@@ -31,23 +31,8 @@ tested c = ap (λ s. suits (c .before .before .before .loop .i) (c .before .befo
 loop-holds : tie.Need-loop-holds Inv-loop μ-loop
 loop-holds c = looking-none (test (c .args .o) (c .args .t1)) 5
 
-mul-station-serves : tie.Need-mul-station-serves Inv-loop μ-loop
-mul-station-serves c = search needs
-
-array-copy-out-station-serves : tie.Need-array-copy-out-station-serves Inv-loop μ-loop
-array-copy-out-station-serves c = search needs
-
-station-serves-requires : tie.Need-station-serves-requires Inv-loop μ-loop
-station-serves-requires c κs = search needs
-
 returns : tie.Need-returns Inv-loop μ-loop
 returns c = looking-found (test (c .before .before .before .before .before .args .o) (c .before .before .before .before .before .args .t1)) 5 _ (c .before .before .before .before .loop .inv) (omega arith) (tested (c .before) ∙ c .if1 .taken)
-
-add-i : tie.Need-add-i Inv-loop μ-loop
-add-i c = search needs
-
-loop-less : tie.Need-loop-less Inv-loop μ-loop
-loop-less c = search needs
 
 loop-again : tie.Need-loop-again Inv-loop μ-loop
 loop-again c = looking-more (test (c .before .before .before .before .before .args .o) (c .before .before .before .before .before .args .t1)) 5 _ (c .before .before .before .before .loop .inv) (omega arith) (tested (c .before) ∙ c .if1 .left)
@@ -62,11 +47,11 @@ lowest-station-spec =
     Inv-loop
     μ-loop
     loop-holds
-    mul-station-serves
-    array-copy-out-station-serves
-    station-serves-requires
+    (λ c. search needs)
+    (λ c. search needs)
+    (λ c κs. search needs)
     returns
-    add-i
-    loop-less
+    (λ c. search needs)
+    (λ c. search needs)
     loop-again
     returns-2)

@@ -29,23 +29,8 @@ tested c = ap isFreeStore (seen viewStore (c .before .before .before .before .ar
 loop-holds : tie.Need-loop-holds Inv-loop μ-loop
 loop-holds c = looking-none (test (c .args .t1)) 3
 
-mul-store-free : tie.Need-mul-store-free Inv-loop μ-loop
-mul-store-free c = search needs
-
-array-copy-out-store-free : tie.Need-array-copy-out-store-free Inv-loop μ-loop
-array-copy-out-store-free c = search needs
-
-store-free-requires : tie.Need-store-free-requires Inv-loop μ-loop
-store-free-requires c κs = search needs
-
 returns : tie.Need-returns Inv-loop μ-loop
 returns c = looking-found (test (c .before .before .before .before .before .args .t1)) 3 _ (c .before .before .before .before .loop .inv) (omega arith) (tested (c .before) ∙ c .if1 .taken)
-
-add-i : tie.Need-add-i Inv-loop μ-loop
-add-i c = search needs
-
-loop-less : tie.Need-loop-less Inv-loop μ-loop
-loop-less c = search needs
 
 loop-again : tie.Need-loop-again Inv-loop μ-loop
 loop-again c = looking-more (test (c .before .before .before .before .before .args .t1)) 3 _ (c .before .before .before .before .loop .inv) (omega arith) (tested (c .before) ∙ c .if1 .left)
@@ -60,11 +45,11 @@ lowest-store-spec =
     Inv-loop
     μ-loop
     loop-holds
-    mul-store-free
-    array-copy-out-store-free
-    store-free-requires
+    (λ c. search needs)
+    (λ c. search needs)
+    (λ c κs. search needs)
     returns
-    add-i
-    loop-less
+    (λ c. search needs)
+    (λ c. search needs)
     loop-again
     returns-2)

@@ -3,23 +3,8 @@ use Rattle.held.proofs.Adders.{adder-index, other-index}
 use Rattle.held.proofs.parts.Tag.suits.Statement.{statement}
 use Rattle.held.proofs.parts.Tag.suits.Tie as tie
 
-sub-adder : tie.Need-sub-adder
-sub-adder c = search needs
-
-cast-adder : tie.Need-cast-adder
-cast-adder c = search needs
-
 enum-told : tie.Need-enum-told
 enum-told c = search needs
-
-enum-told-2 : tie.Need-enum-told-2
-enum-told-2 c = search needs
-
-enum-told-3 : tie.Need-enum-told-3
-enum-told-3 c = search needs
-
-enum-told-4 : tie.Need-enum-told-4
-enum-told-4 c = search needs
 
 returns : tie.Need-returns
 returns c = rw (c .enum-told .given .1) (adder-index (c .before .before .args .index))
@@ -37,12 +22,12 @@ pub suits-spec : {M : Type 1} → statement M
 suits-spec =
     tie.close
     (tie.spec
-    sub-adder
-    cast-adder
+    (λ c. search needs)
+    (λ c. search needs)
     enum-told
-    enum-told-2
-    enum-told-3
-    enum-told-4
+    (λ c. search needs)
+    (λ c. search needs)
+    (λ c. search needs)
     returns
     returns-2
     returns-3
