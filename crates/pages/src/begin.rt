@@ -38,7 +38,7 @@ pub struct Begun {
     pub operands: usize,
 }
 
-pub fn stops(fault: Fault) -> bool
+pub(crate) fn stops(fault: Fault) -> bool
     ensures { λ r. ⌜ r ≡ isFault fault ⌝ }
 {
     match fault {
@@ -101,7 +101,7 @@ fn stopped(name: Name, fault: Fault) -> Begun
 }
 
 // The files in 01's order, then the list against its areas.
-pub fn begin(
+pub(crate) fn begin(
     named: Found,
     list: &[u8],
     operands: &[u8],

@@ -11,7 +11,7 @@ pub const FILE_LIMIT: usize = 65536;
 const OPERANDS_LIMIT: usize = 2048;
 
 // Missing, then 11: all that a schedule can be refused for before the run.
-pub fn schedule_fault(bytes: &[u8], found: bool) -> Fault
+pub(crate) fn schedule_fault(bytes: &[u8], found: bool) -> Fault
     ensures { λ r. ⌜ r ≡ fileFault (given found (now (bytes .entry))) scheduleFault ⌝ }
 {
     if !found {
@@ -24,7 +24,7 @@ pub fn schedule_fault(bytes: &[u8], found: bool) -> Fault
 }
 
 // Then 4 for more than 256 patterns, and 8 for a cut one.
-pub fn operands_fault(bytes: &[u8], found: bool) -> Fault
+pub(crate) fn operands_fault(bytes: &[u8], found: bool) -> Fault
     ensures { λ r. ⌜ r ≡ fileFault (given found (now (bytes .entry))) operandsFault ⌝ }
 {
     if !found {

@@ -35,7 +35,7 @@ fn pattern_at(bytes: &[u8], at: usize) -> u64
 }
 
 // Stores the numbers of a file, and answers how many they are.
-pub fn read_operands(bytes: &[u8], cells: &mut [f64]) -> usize
+pub(crate) fn read_operands(bytes: &[u8], cells: &mut [f64]) -> usize
     requires { ⌜ length (now bytes) ≤ length (now cells) * patternSize ⌝ }
     ensures { λ r. ⌜ (r ≡ length (operandsIn (now (bytes .entry)))) × (now (cells .exit) ≡ sets (now (cells .entry)) 0 (operandsIn (now (bytes .entry)))) ⌝ }
 {

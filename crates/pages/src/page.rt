@@ -14,7 +14,7 @@ ghost use Rattle.order.specs.Machine.{tag};
 ghost use Rattle.pages.specs.Put.{PutIn, labelLimit, answerLimit, countLimit, refusalLimit, tagLimit, registerLimit, registersLimit, headLimit, recordLimit, pageRoom};
 
 // A refusal number and its place, to the line's end.
-pub fn put_answer(out: &mut [u8], at: usize, number: u32, place: usize) -> usize
+pub(crate) fn put_answer(out: &mut [u8], at: usize, number: u32, place: usize) -> usize
     requires { ⌜ at + answerLimit ≤ length (now out) ⌝ }
     ensures { λ r. ⌜ PutIn answerLimit (now (out .entry)) (now (out .exit)) at r (answerText number place) ⌝ }
 {
@@ -130,7 +130,7 @@ fn put_head(
 }
 
 // The report of a run that was made.
-pub fn put_page(
+pub(crate) fn put_page(
     out: &mut [u8],
     steps: usize,
     refusal: u32,

@@ -17,7 +17,7 @@ fn digit(d: usize) -> u8
     55 + d as u8
 }
 
-pub fn put_text(out: &mut [u8], at: usize, text: &[u8]) -> usize
+pub(crate) fn put_text(out: &mut [u8], at: usize, text: &[u8]) -> usize
     requires { ⌜ Room (now out) at (now text) ⌝ }
     ensures { λ r. ⌜ Put (now (out .entry)) (now (out .exit)) at r (now (text .entry)) ⌝ }
 {
@@ -29,7 +29,7 @@ pub fn put_text(out: &mut [u8], at: usize, text: &[u8]) -> usize
     at + i
 }
 
-pub fn put_decimal(out: &mut [u8], at: usize, n: usize) -> usize
+pub(crate) fn put_decimal(out: &mut [u8], at: usize, n: usize) -> usize
     requires { ⌜ Room (now out) at (decimal n) ⌝ }
     ensures { λ r. ⌜ Put (now (out .entry)) (now (out .exit)) at r (decimal n) ⌝ }
 {
@@ -55,7 +55,7 @@ fn put_hexadecimal(out: &mut [u8], at: usize, digits: usize, n: u64) -> usize
 }
 
 // The 16 digits of a number's pattern.
-pub fn put_pattern(out: &mut [u8], at: usize, number: f64) -> usize
+pub(crate) fn put_pattern(out: &mut [u8], at: usize, number: f64) -> usize
     requires { ⌜ Room (now out) at (pattern (patternOf number)) ⌝ }
     ensures { λ r. ⌜ Put (now (out .entry)) (now (out .exit)) at r (pattern (patternOf number)) ⌝ }
 {

@@ -54,7 +54,7 @@ fn tell(
 }
 
 // "All registers and 256 result cells start at +0. The log has 2,048 records."
-pub fn ran(out: &mut [u8], words: &[u32], operands: &[f64], schedule: &[u8]) -> usize
+pub(crate) fn ran(out: &mut [u8], words: &[u32], operands: &[f64], schedule: &[u8]) -> usize
     requires { ⌜ pageRoom ≤ length (now out) ⌝ }
     ensures { λ r. ⌜ PutIn pageRoom (now (out .entry)) (now (out .exit)) 0 r (ranText (lentTo (now (words .entry)) (now (operands .entry))) (runOf (lentTo (now (words .entry)) (now (operands .entry))) (now (schedule .entry)))) ⌝ }
 {
