@@ -30,38 +30,26 @@ fn put_refused(out: &mut [u8], name: &[u8], number: u32, place: usize) -> usize
     put_answer(out, fourth, number, place)
 }
 
-fn missing_file(out: &mut [u8], name: Name) -> usize
-    requires { ⌜ pageRoom ≤ length (now out) ⌝ }
-    ensures { λ r. ⌜ PutIn pageRoom (now (out .entry)) (now (out .exit)) 0 r (missingLine (nameText name)) ⌝ }
-{
-    match name {
-        Name::List => put_missing(out, b"list"),
-        Name::Operands => put_missing(out, b"operands"),
-        Name::Schedule => put_missing(out, b"schedule"),
-        Name::Areas => put_missing(out, b"areas"),
-    }
-}
-
-fn refused_file(out: &mut [u8], name: Name, number: u32, place: usize) -> usize
-    requires { ⌜ pageRoom ≤ length (now out) ⌝ }
-    ensures { λ r. ⌜ PutIn pageRoom (now (out .entry)) (now (out .exit)) 0 r (refusedLine (nameText name) number place) ⌝ }
-{
-    match name {
-        Name::List => put_refused(out, b"list", number, place),
-        Name::Operands => put_refused(out, b"operands", number, place),
-        Name::Schedule => put_refused(out, b"schedule", number, place),
-        Name::Areas => put_refused(out, b"areas", number, place),
-    }
-}
-
 // The line of a fault; nothing without one.
-pub fn put_stop(out: &mut [u8], name: Name, fault: Fault) -> usize
-    requires { ⌜ pageRoom ≤ length (now out) ⌝ }
-    ensures { λ r. ⌜ PutIn pageRoom (now (out .entry)) (now (out .exit)) 0 r (orStopped fault (nameText name) []) ⌝ }
+fn put_line(out: &mut [u8], name: &[u8], fault: Fault) -> usize
+    requires { ⌜ (length (now name) ≤ labelLimit) × (pageRoom ≤ length (now out)) ⌝ }
+    ensures { λ r. ⌜ PutIn pageRoom (now (out .entry)) (now (out .exit)) 0 r (orStopped fault (now (name .entry)) []) ⌝ }
 {
     match fault {
         Fault::Nothing => 0,
-        Fault::Missing => missing_file(out, name),
-        Fault::Refused(number, place) => refused_file(out, name, number, place),
+        Fault::Missing => put_missing(out, name),
+        Fault::Refused(number, place) => put_refused(out, name, number, place),
+    }
+}
+
+pub(crate) fn put_stop(out: &mut [u8], name: Name, fault: Fault) -> usize
+    requires { ⌜ pageRoom ≤ length (now out) ⌝ }
+    ensures { λ r. ⌜ PutIn pageRoom (now (out .entry)) (now (out .exit)) 0 r (orStopped fault (nameText name) []) ⌝ }
+{
+    match name {
+        Name::List => put_line(out, b"list", fault),
+        Name::Operands => put_line(out, b"operands", fault),
+        Name::Schedule => put_line(out, b"schedule", fault),
+        Name::Areas => put_line(out, b"areas", fault),
     }
 }
