@@ -3,3 +3,4 @@ pub mod Text
 pub mod Words
 pub mod Operands
 pub mod Report
+pub mod Theorem
