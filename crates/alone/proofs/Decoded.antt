@@ -1,9 +1,6 @@
 -- A word that has been checked, by its form and fields as the code reads them.
-use mathlib.Core.Path.{_≡_, refl, sym, ap, _∙_}
-use mathlib.Core.List.{List, [], _∷_}
-use Prim.Native.Nat.{ℕ, zero, suc, _<_}
-use native.Mathlib.Nat.{not-suc-le-zero, le-of-suc-le-suc}
-use lib.ListN.{length, getD}
+use mathlib.Core.Path.{_≡_, sym, ap, _∙_}
+use Prim.Native.Nat.{ℕ}
 use Rattle.words.specs.declared.Form.{Form}
 use Rattle.words.specs.Instructions.{operationField, r1Field, operandField, formOf}
 use Rattle.words.specs.Check.{wordRefusal}
@@ -23,9 +20,3 @@ decoded operands results word form {operation} {r1} {operand} {found} passed o f
     let known : formOf (operationField word) ≡ form = ap formOf (sym o) ∙ sym f ∙ g in
     let same : decode word ≡ instruction form r1 operand = rw (r, x, known) in
     record { is = same; formed = rw same at (word-formed operands results word passed) }
-
--- within a row the default does not count
-pub any-default : {A : Type 0} (l : List A) (i : ℕ) (d e : A) → i < length l → getD l i d ≡ getD l i e
-any-default [] i d e h = absurd (not-suc-le-zero h)
-any-default (a ∷ l) zero d e h = refl
-any-default (a ∷ l) (suc i) d e h = any-default l i d e (le-of-suc-le-suc h)

@@ -16,9 +16,8 @@ use Rattle.order.specs.OneAtATime.{Run, value, execute, runTo}
 use Rattle.order.specs.Entries.{listRefusal}
 use Rattle.order.specs.Binary64.{binary64}
 use Rattle.order.proofs.Words.{passes}
-use Rattle.held.specs.View.{lent}
+use Rattle.held.specs.View.{lent, cellsAlone}
 use Rattle.alone.specs.Answers.{at}
-use Rattle.alone.specs.Answers.{operandsAlone}
 
 -- no instruction adds or takes away a register
 module _ (L : Lent Float) where
@@ -54,12 +53,12 @@ module _ {words : List ℕ} {operands starts cells : List Float} where
     running-four e = ap (λ (r : Run Float). length (r .registers)) (s .run) ∙ run-four (lent words operands cells) (at starts cells) place ∙ e
 
     pub running-more : {after written : List Float} → place < length words → length written ≡ length results
-        → at after written ≡ execute binary64 (operandsAlone operands) (decode (getD words place 0)) (at registers results)
+        → at after written ≡ execute binary64 (cellsAlone operands) (decode (getD words place 0)) (at registers results)
         → Running words operands starts cells after written (place + 1)
     running-more h l e = record {
       within = omega arith;
       same = l ∙ s .same;
-      run = rw add-one (e ∙ ap (execute binary64 (operandsAlone operands) (decode (getD words place 0))) (s .run));
+      run = rw add-one (e ∙ ap (execute binary64 (cellsAlone operands) (decode (getD words place 0))) (s .run));
     }
 
     pub running-all : length words ≤ place → at registers results ≡ runTo binary64 (lent words operands cells) (at starts cells) (length words)

@@ -1,9 +1,8 @@
 -- The answer of the one-at-a-time run as that of crate order at binary64.
-use mathlib.Core.List.{List, []}
+use mathlib.Core.List.{List}
 use lib.Ieee.{Float}
 use Rattle.order.specs.OneAtATime.{Run}
 use Rattle.order.specs.Entries as order
-use Rattle.order.specs.Machine.{Lent}
 use Rattle.alone.specs.declared.one_at_a_time.Ran.{Ran}
 
 abbrev pub at : (registers cells : List Float) → Run Float
@@ -12,7 +11,3 @@ at registers cells = record { registers = registers; cells = cells }
 -- the registers with the result cells as the run leaves them
 abbrev pub viewRan : Ran → (cells : List Float) → order.Ran Float
 viewRan r cells = record { refusal = r .refusal; run = at (r .registers) cells }
-
--- what one instruction reads of what is lent: the operand cells
-abbrev pub operandsAlone : List Float → Lent Float
-operandsAlone operands = record { words = []; operands = operands; results = 0 }

@@ -10,9 +10,8 @@ ghost use Rattle.order.specs.Instruction.{decode};
 ghost use Rattle.order.specs.OneAtATime.{execute};
 ghost use Rattle.order.specs.Entries.{oneAtATime};
 ghost use Rattle.order.specs.Binary64.{binary64};
-ghost use Rattle.held.specs.View.{lent};
+ghost use Rattle.held.specs.View.{lent, cellsAlone};
 ghost use Rattle.alone.specs.Answers.{at, viewRan};
-ghost use Rattle.alone.specs.Answers.{operandsAlone};
 
 // The answer of a run: the registers, the start numbers when refused, and a refusal number of 01, 0 for accepted.
 pub struct Ran {
@@ -24,7 +23,7 @@ pub struct Ran {
 fn execute(word: u32, registers: &mut [f64; 4], operands: &[f64], results: &mut [f64])
     requires { ⌜ wordRefusal (length (now operands)) (length (now results)) word ≡ 0 ⌝ }
     requires { ⌜ length (now registers) ≡ registerCount ⌝ }
-    ensures { λ r. ⌜ at (now (registers .exit)) (now (results .exit)) ≡ execute binary64 (operandsAlone (now (operands .entry))) (decode word) (at (now (registers .entry)) (now (results .entry))) ⌝ }
+    ensures { λ r. ⌜ at (now (registers .exit)) (now (results .exit)) ≡ execute binary64 (cellsAlone (now (operands .entry))) (decode word) (at (now (registers .entry)) (now (results .entry))) ⌝ }
 {
     let form = words::form_of(words::operation_of(word));
     let r = Register::index_of(words::r1_of(word));

@@ -1,6 +1,6 @@
 -- The declared types as the machine of crate order at binary64. The view is one-to-one (proofs/Exact.antt), so a contract on it determines.
 use mathlib.Core.Option.{Option, none, some}
-use mathlib.Core.List.{List, map}
+use mathlib.Core.List.{List, [], map}
 use Prim.Native.Nat.{ℕ}
 use lib.Ieee.{Float}
 use lib.ListN.{length}
@@ -79,3 +79,7 @@ viewStepped s = record { refusal = s .refusal; machine = view (s .machine); rele
 -- what is lent to an entry: the list, the operand cells, and the result cells, of which only the length counts
 abbrev pub lent : (words : List ℕ) (operands results : List Float) → Lent Float
 lent words operands results = record { words = words; operands = operands; results = length results }
+
+-- operand cells lent alone: what an arrival, or one instruction of the one-at-a-time run, reads of what is lent
+abbrev pub cellsAlone : List Float → Lent Float
+cellsAlone operands = record { words = []; operands = operands; results = 0 }

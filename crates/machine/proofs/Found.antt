@@ -10,7 +10,7 @@ use Rattle.order.specs.Machine.{Lent}
 use Rattle.order.specs.Binary64.{binary64}
 use Rattle.order.specs.Issue.{Answer}
 use Rattle.order.specs.Steps.{arrive, complete, grantBuffer, grantStation, releaseStore, perform}
-use Rattle.held.specs.View.{viewRegister, viewBuffer, viewStation, viewStore, view}
+use Rattle.held.specs.View.{viewRegister, viewBuffer, viewStation, viewStore, view, cellsAlone}
 use Rattle.held.specs.declared.parts.Machine.{Machine}
 use Rattle.held.specs.declared.parts.Buffer.{Buffer}
 use Rattle.held.specs.declared.parts.BufferState.the-variants as buffer
@@ -23,7 +23,6 @@ use Rattle.slots.specs.declared.code.Step.the-variants.{Unknown, Issue, Arrival
 use Rattle.machine.specs.declared.change.Change.{Change}
 use Rattle.machine.specs.declared.change.Change.the-variants.{Refused}
 use Rattle.slots.specs.Slots.{Read}
-use Rattle.machine.specs.Inside.{cellsAlone}
 use Rattle.machine.specs.Changes.{changed, Makes, IssuesNext}
 use Rattle.slots.proofs.Codes.{performed}
 use Rattle.machine.proofs.Arms.{Known}

@@ -1,12 +1,8 @@
 -- What only the contracts of private functions cite: what is lent to a step.
-use mathlib.Core.List.{List, []}
+use mathlib.Core.List.{List}
 use Prim.Native.Nat.{ℕ}
 use lib.Ieee.{Float}
 use Rattle.order.specs.Machine.{Lent}
-
--- operand cells lent alone: what an arrival reads
-abbrev pub cellsAlone : List Float → Lent Float
-cellsAlone operands = record { words = []; operands = operands; results = 0 }
 
 -- the result cells by their number
 abbrev pub lentTo : (words : List ℕ) (operands : List Float) (results : ℕ) → Lent Float

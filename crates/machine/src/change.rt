@@ -17,8 +17,7 @@ ghost use Prim.Native.Nat.{_<_};
 ghost use Rattle.order.specs.Tags.{bufferCount, stationCount, storeCount};
 ghost use Rattle.order.specs.Binary64.{binary64};
 ghost use Rattle.order.specs.Steps.{operandCell, arrive, complete, grantBuffer, grantStation, releaseStore};
-ghost use Rattle.held.specs.View.{viewBuffer, viewStation, viewStore};
-ghost use Rattle.machine.specs.Inside.{cellsAlone};
+ghost use Rattle.held.specs.View.{viewBuffer, viewStation, viewStore, cellsAlone};
 ghost use Rattle.machine.specs.Changes.{Makes};
 
 pub enum Change {

@@ -9,7 +9,8 @@ use Rattle.order.specs.Instruction.{indexOf}
 use Rattle.order.specs.Binary64.{binary64}
 use Rattle.order.proofs.Words.{cell-in-area}
 use denote.Ref.{now}
-use Rattle.alone.proofs.Decoded.{Decoded, decoded, any-default}
+use Rattle.held.proofs.Seen.{any-default}
+use Rattle.alone.proofs.Decoded.{Decoded, decoded}
 use Rattle.alone.proofs.one_at_a_time.execute.Statement.{statement}
 use Rattle.alone.proofs.one_at_a_time.execute.Tie as tie
 

@@ -47,9 +47,9 @@ use denote.Exit.{yes}
 use Rattle.held.specs.declared.parts.Machine.{Machine}
 use Rattle.lent.specs.declared.in_place.Placed.{Placed}
 use Rattle.lent.specs.InPlace.{InPlace}
-use Rattle.lent.proofs.Lies.{lies-in, lies-out}
 use Rattle.held.proofs.parts.Machine as T
 use Rattle.held.proofs.parts.Machine.Laws as T′
+use Rattle.lent.proofs.Kit.{lies-in, lies-out}
 use Rattle.lent.proofs.in_place.Placed as S
 use Rattle.lent.proofs.in_place.Placed.Laws as S′
 use Rattle.lent.proofs.in_place.step_in_place as g
