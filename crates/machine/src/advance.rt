@@ -84,50 +84,33 @@ pub fn advance(
     ensures { λ r. ⌜ (r ≡ advanced p (now (words .entry)) (now (operands .entry)) (now (results .entry)) (now (schedule .entry)) room)
         × (now (results .exit) ≡ cellsAfter p (now (words .entry)) (now (operands .entry)) (now (results .entry)) (now (schedule .entry)) room) ⌝ }
 {
-    let from = p.place;
-    let count = p.steps;
-    let records = p.records;
     if !p.going {
         return stays(p);
     }
-    if from < count {
+    if p.place < p.steps {
         return stays(p);
     }
     let m = p.machine;
-    let taken = taking(
-        m,
-        words,
-        operands,
-        results.len(),
-        schedule,
-        from,
-        count,
-        records < room,
-    );
+    let records = p.records;
+    let size = results.len();
+    let fits = records < room;
+    let taken = taking(m, words, operands, size, schedule, p.place, p.steps, fits);
     let machine = taken.machine;
     let released = taken.released;
     write_released(released, results);
+    let mut progress = Progress {
+        machine,
+        steps: taken.steps,
+        place: taken.place,
+        refusal: taken.refusal,
+        records,
+        going: false,
+    };
     match released {
-        Released::Nothing => {
-            let progress = Progress {
-                machine,
-                steps: taken.steps,
-                place: taken.place,
-                refusal: taken.refusal,
-                records,
-                going: false,
-            };
-            stays(progress)
-        }
+        Released::Nothing => stays(progress),
         Released::One(made) => {
-            let progress = Progress {
-                machine,
-                steps: taken.steps,
-                place: taken.place,
-                refusal: taken.refusal,
-                records: records + 1,
-                going: true,
-            };
+            progress.records = records + 1;
+            progress.going = true;
             Stop {
                 progress,
                 made,

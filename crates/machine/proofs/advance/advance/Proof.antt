@@ -10,19 +10,19 @@ returns : tie.Need-returns
 returns c = let a = c .before .before .before .before .before .before .before .args in not-begun (a .p) (now (a .words)) (now (a .operands)) (now (a .results)) (now (a .schedule)) (a .room) (not-true _ (c .before .if1 .taken)) (c .stays .ensures)
 
 returns-2 : tie.Need-returns-2
-returns-2 c = let a = c .before .before .before .before .before .before .before .before .args in never (a .p) (now (a .words)) (now (a .operands)) (now (a .results)) (now (a .schedule)) (a .room) (not-false _ (c .before .before .if1 .left)) (c .before .if2 .taken) (c .stays2 .ensures)
+returns-2 c = let a = c .before .before .before .before .before .before .before .before .before .args in never (a .p) (now (a .words)) (now (a .operands)) (now (a .results)) (now (a .schedule)) (a .room) (not-false _ (c .before .before .before .if1 .left)) (c .before .if2 .taken) (c .stays2 .ensures)
 
 enum-told : tie.Need-enum-told
 enum-told c = search needs
 
-add-t23 : tie.Need-add-t23
-add-t23 c = let a = c .before .before .before .before .before .before .before .before .before .before .before .before .before .before .before .before .before .args in omega (arith, has-room (a .p) (now (a .words)) (now (a .operands)) (now (a .results)) (now (a .schedule)) (a .room) (not-false _ (c .before .before .before .before .before .before .before .before .before .before .before .if1 .left)) (c .before .before .before .before .before .before .before .before .before .before .if2 .left) (c .before .before .before .before .before .before .before .before .taking .result) (c .before .before .before .before .before .before .before .before .taking .ensures) (c .before .before .before .before .before .write-released .ensures) _ (c .before .released .given .1), c .before .before .before .before .before .before .before .before .before .before .before .before .before .before .before .before .before .fits .room .fits)
+add-progress : tie.Need-add-progress
+add-progress c = let a = c .before .before .before .before .before .before .before .before .before .before .before .before .before .before .before .before .before .before .args in omega (arith, has-room (a .p) (now (a .words)) (now (a .operands)) (now (a .results)) (now (a .schedule)) (a .room) (not-false _ (c .before .before .before .before .before .before .before .before .before .before .before .before .if1 .left)) (c .before .before .before .before .before .before .before .before .before .before .if2 .left) (c .before .before .before .before .before .before .before .before .taking .result) (c .before .before .before .before .before .before .before .before .taking .ensures) (c .before .before .before .before .before .write-released .ensures) _ (c .before .released .given .1), c .before .before .before .before .before .before .before .before .before .before .before .before .before .before .before .before .before .before .fits .room .fits)
 
 returns-3 : tie.Need-returns-3
-returns-3 c = let a = c .before .before .before .before .before .before .before .before .before .before .before .before .before .before .before .before .before .args in no-release (a .p) (now (a .words)) (now (a .operands)) (now (a .results)) (now (a .schedule)) (a .room) (not-false _ (c .before .before .before .before .before .before .before .before .before .before .before .if1 .left)) (c .before .before .before .before .before .before .before .before .before .before .if2 .left) (c .before .before .before .before .before .before .before .before .taking .result) (c .before .before .before .before .before .before .before .before .taking .ensures) (c .before .before .before .before .before .write-released .ensures) (c .before .enum-told .given .1) (c .stays3 .ensures)
+returns-3 c = let a = c .before .before .before .before .before .before .before .before .before .before .before .before .before .before .before .before .before .before .args in no-release (a .p) (now (a .words)) (now (a .operands)) (now (a .results)) (now (a .schedule)) (a .room) (not-false _ (c .before .before .before .before .before .before .before .before .before .before .before .before .if1 .left)) (c .before .before .before .before .before .before .before .before .before .before .if2 .left) (c .before .before .before .before .before .before .before .before .taking .result) (c .before .before .before .before .before .before .before .before .taking .ensures) (c .before .before .before .before .before .write-released .ensures) (c .before .enum-told .given .1) (c .stays3 .ensures)
 
 returns-4 : tie.Need-returns-4
-returns-4 c = let a = c .before .before .before .before .before .before .before .before .before .before .before .before .before .before .before .before .before .args in release (a .p) (now (a .words)) (now (a .operands)) (now (a .results)) (now (a .schedule)) (a .room) (not-false _ (c .before .before .before .before .before .before .before .before .before .before .before .if1 .left)) (c .before .before .before .before .before .before .before .before .before .before .if2 .left) (c .before .before .before .before .before .before .before .before .taking .result) (c .before .before .before .before .before .before .before .before .taking .ensures) (c .before .before .before .before .before .write-released .ensures) _ (c .before .released .given .1)
+returns-4 c = let a = c .before .before .before .before .before .before .before .before .before .before .before .before .before .before .before .before .before .before .args in release (a .p) (now (a .words)) (now (a .operands)) (now (a .results)) (now (a .schedule)) (a .room) (not-false _ (c .before .before .before .before .before .before .before .before .before .before .before .before .if1 .left)) (c .before .before .before .before .before .before .before .before .before .before .if2 .left) (c .before .before .before .before .before .before .before .before .taking .result) (c .before .before .before .before .before .before .before .before .taking .ensures) (c .before .before .before .before .before .write-released .ensures) _ (c .before .released .given .1)
 
 pub advance-spec : {M : Type 1} → statement M
 advance-spec =
@@ -37,7 +37,7 @@ advance-spec =
     enum-told
     (λ c κs. search needs)
     (λ c. search needs)
-    add-t23
+    add-progress
     (λ c. search needs)
     returns-3
     (λ c. search needs)
