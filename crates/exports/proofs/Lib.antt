@@ -1,0 +1,5 @@
+pub mod Entries
+pub mod Logging
+pub mod Rows
+pub mod Tests
+pub mod Words

@@ -1,0 +1,4 @@
+pub mod Entries
+pub mod Image
+pub mod Logging
+pub mod Rows

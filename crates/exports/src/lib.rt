@@ -1,0 +1,8 @@
+// The entries for programs in C or Rust: a static library. Its functions carry numbers and rows of numbers alone, so a machine goes as a row of
+// 77 words (specs/Image.antt).
+mod image;
+mod lists;
+mod machines;
+mod row;
+mod run;
+mod spelling;

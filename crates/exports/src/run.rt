@@ -1,0 +1,74 @@
+// The run of a schedule, its log a row of words: three to a record.
+use crate::image::machine_in;
+use crate::machines::record_words;
+use crate::row::put_words;
+use crate::spelling::put_machine;
+use held::parts::Machine;
+use machine::advance::Progress;
+use machine::advance::Stop;
+use machine::advance::advance;
+use machine::advance::begun;
+ghost use mathlib.Core.Path.{_≡_};
+ghost use Rattle.held.specs.View.{view};
+ghost use Rattle.exports.specs.Image.{machineIn};
+ghost use Rattle.exports.specs.Entries.{RunWords, RunLogged, runIn, roomIn};
+ghost use Rattle.exports.specs.Logging.{loggedStop};
+
+// The record of a stop at a release, where the log has room.
+fn put_stop(log: &mut [u64], stop: Stop)
+    ensures { λ _. ⌜ now (log .exit) ≡ loggedStop (now (log .entry)) stop ⌝ }
+{
+    if !stop.released {
+        return;
+    }
+    if log.len() / 3 <= stop.index {
+        return;
+    }
+    let made = stop.made;
+    let words = record_words(made);
+    put_words(log, stop.index * 3, &words);
+}
+
+fn run_by_value(
+    m: Machine,
+    words: &[u32],
+    operands: &[f64],
+    results: &mut [f64],
+    schedule: &[u8],
+    log: &mut [u64],
+) -> Progress
+    ensures { λ r. ⌜ RunLogged (runIn (now (words .entry)) (now (operands .entry)) (view m) (now (results .entry)) (now (schedule .entry)) (now (log .entry))) (now (log .entry)) r (now (results .exit)) (now (log .exit)) ⌝ }
+{
+    let room = log.len() / 3;
+    let mut run = begun(m, words, operands, results.len());
+    let mut going = true;
+    while going {
+        let stop = advance(run, words, operands, results, schedule, room);
+        put_stop(log, stop);
+        run = stop.progress;
+        going = stop.released;
+    }
+    run
+}
+
+// Answers the refusal; the row of words takes the machine, the log the records, and the row of answers steps done, byte place and records.
+#[no_mangle]
+pub extern "C" fn wethertide_run(
+    machine: &mut [u64],
+    words: &[u32],
+    operands: &[f64],
+    results: &mut [f64],
+    schedule: &[u8],
+    log: &mut [u64],
+    answer: &mut [u64],
+) -> u32
+    ensures { λ r. ⌜ RunWords (runIn (now (words .entry)) (now (operands .entry)) (machineIn (now (machine .entry))) (now (results .entry)) (now (schedule .entry)) (now (log .entry))) (now (machine .entry)) (now (log .entry)) (now (answer .entry)) r (now (machine .exit)) (now (results .exit)) (now (log .exit)) (now (answer .exit)) ⌝ }
+{
+    let m = machine_in(machine);
+    let run = run_by_value(m, words, operands, results, schedule, log);
+    let after = run.machine;
+    put_machine(machine, after);
+    let told: [u64; 3] = [run.steps as u64, run.place as u64, run.records as u64];
+    put_words(answer, 0, &told);
+    run.refusal
+}
