@@ -17,16 +17,14 @@ pub fn read(bytes: &[u8], words: &mut [u32]) -> Result<usize, Fault> {
         return Err(Refusal::TooSmall.at(0));
     }
     // A refused read writes nothing, so the words wait here until the last byte is good.
-    let mut read_words = Vec::with_capacity(count);
-    for _ in 0..count {
-        let (word, next) = read_word(bytes, place)?;
-        read_words.push(word);
-        place = next;
+    let mut read_words = [0; LIST_LIMIT];
+    for word in &mut read_words[..count] {
+        (*word, place) = read_word(bytes, place)?;
     }
     if place < bytes.len() {
         return Err(Refusal::BytesLeft.at(place));
     }
-    words[..count].copy_from_slice(&read_words);
+    words[..count].copy_from_slice(&read_words[..count]);
     Ok(count)
 }
 

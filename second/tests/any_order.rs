@@ -15,7 +15,8 @@ fn random_section(prng: &mut Prng) -> Section {
     let numbers: Vec<f64> = (0..count).map(|_| f64::from_bits(operands::pattern(prng))).collect();
     let start = [0; 4].map(|_| f64::from_bits(operands::pattern(prng)));
     let length = prng.below(40);
-    Section::of_words(lists::good(prng, length, count), &numbers, start)
+    let areas = CellLimits::of_areas(count, 256);
+    Section::of_words(lists::good(prng, length, areas), &numbers, start)
 }
 
 /// Registers and results after the first `length` instructions, one at a time.

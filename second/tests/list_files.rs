@@ -166,7 +166,7 @@ fn random_lists_come_back() {
     let mut prng = Prng::new(11);
     for _ in 0..500 {
         let length = lists::length(&mut prng);
-        let mut list = lists::good(&mut prng, length, 256);
+        let mut list = lists::good(&mut prng, length, CellLimits::NO_AREAS);
         assert_eq!(read(&list_file::encode(&list)), Ok(list.clone()));
         lists::damage(&mut prng, &mut list);
         let file = list_file::encode(&list);

@@ -5,6 +5,7 @@ use second::random::{
     bytes, lists, operands as random_operands, schedules as random_schedules, Prng,
 };
 use second::text::{assembly, operands, schedules, LineError};
+use second::words::CellLimits;
 
 fn reason<T: std::fmt::Debug>(answer: Result<T, LineError>) -> String {
     answer.unwrap_err().to_string()
@@ -111,7 +112,7 @@ fn random_files_come_back() {
     let mut prng = Prng::new(5);
     for _ in 0..300 {
         let length = lists::length(&mut prng);
-        let list = list_file::encode(&lists::good(&mut prng, length, 256));
+        let list = list_file::encode(&lists::good(&mut prng, length, CellLimits::NO_AREAS));
         assert_eq!(assembly::assemble(&assembly::listing(&list).unwrap()), Ok(list));
 
         let patterns: Vec<u64> = (0..256).map(|_| random_operands::pattern(&mut prng)).collect();

@@ -1,7 +1,7 @@
 //! Random lists, as words.
 
 use super::Prng;
-use crate::words::{Fields, Operation, CELL_LIMIT, LIST_LIMIT};
+use crate::words::{CellLimits, Fields, Operation, CELL_LIMIT, LIST_LIMIT};
 
 /// Operations to choose from: all, or mixes that crowd one kind of place in the machine.
 const MIXES: [&[u32]; 8] = [
@@ -24,25 +24,37 @@ pub fn length(prng: &mut Prng) -> usize {
     }
 }
 
-/// A list that passes against so many operand cells and 256 result cells.
-pub fn good(prng: &mut Prng, length: usize, operand_cells: usize) -> Vec<u32> {
-    let mix = prng.pick(&MIXES);
+/// A list that passes against areas of these lengths.
+pub fn good(prng: &mut Prng, length: usize, areas: CellLimits) -> Vec<u32> {
+    let mix = usable(prng.pick(&MIXES), areas);
     // Few cells make stores meet; the last ones are the edge of their area.
-    let result_cells = prng.pick(&[1, 2, 3, 4, CELL_LIMIT]);
-    let usable = |operation: u32| operand_cells > 0 || !matches!(operation, 1 | 3 | 5 | 7 | 9);
-    let mix: Vec<u32> = mix.iter().copied().filter(|&operation| usable(operation)).collect();
+    let result_cells = prng.pick(&[1, 2, 3, 4, CELL_LIMIT]).min(areas.results);
     (0..length)
         .map(|_| {
             let operation = prng.pick(&mix);
             let operand = match Operation::of_number(operation) {
                 Ok(known) if known.takes_register() => register(prng),
-                Ok(Operation::Std) => (CELL_LIMIT - 1 - prng.below(result_cells)) as u32,
-                _ => prng.below(operand_cells) as u32,
+                Ok(Operation::Std) => (areas.results - 1 - prng.below(result_cells)) as u32,
+                _ => prng.below(areas.operands) as u32,
             };
             let r1 = register(prng);
             Fields { operation, r1, operand }.word()
         })
         .collect()
+}
+
+/// Without the operations whose area is empty; LDR needs none.
+fn usable(mix: &[u32], areas: CellLimits) -> Vec<u32> {
+    let has_cells = |operation: u32| match operation {
+        1 | 3 | 5 | 7 | 9 => areas.operands > 0,
+        11 => areas.results > 0,
+        _ => true,
+    };
+    let usable: Vec<u32> = mix.iter().copied().filter(|&operation| has_cells(operation)).collect();
+    if usable.is_empty() {
+        return vec![2];
+    }
+    usable
 }
 
 fn register(prng: &mut Prng) -> u32 {

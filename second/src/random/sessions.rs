@@ -5,7 +5,7 @@ use crate::list_file;
 use crate::machine::Lent;
 use crate::numbers::Number;
 use crate::report::LOG_RECORDS;
-use crate::words::{Fields, CELL_LIMIT, LIST_LIMIT};
+use crate::words::{CellLimits, Fields, CELL_LIMIT, LIST_LIMIT};
 
 /// What stands behind one of the three names.
 #[derive(Clone, Debug, PartialEq, Eq)]
@@ -51,7 +51,7 @@ fn list_and_patterns(prng: &mut Prng) -> (Vec<u32>, Vec<u64>) {
     // Now and then the list may use cells beyond the operands that are there.
     let cells = if prng.percent(3) { CELL_LIMIT } else { count };
     let length = lists::length(prng);
-    (lists::good(prng, length, cells), patterns)
+    (lists::good(prng, length, CellLimits::of_areas(cells, CELL_LIMIT)), patterns)
 }
 
 fn stores_around_the_log_limit(prng: &mut Prng) -> Vec<u32> {
