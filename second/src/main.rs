@@ -2,7 +2,7 @@
 
 mod commands;
 
-use commands::{lists, sessions, steps, texts, vectors, Outcome, Output};
+use commands::{bench, lists, sessions, steps, texts, vectors, Outcome, Output};
 use std::io::Write;
 use std::process::ExitCode;
 
@@ -22,9 +22,16 @@ const COMMANDS: &[Command] = &[
     },
     Command {
         name: "compare",
-        usage: "--report PATH N SEED",
-        about: "Runs N random sessions by the report program at PATH and by this one; status 1 if any differs.",
+        usage: "[--report PATH] N SEED",
+        about: "Runs N random sessions: the report program at PATH (target/bin/report) against this one, demand 3 on this machine,
+    and, built with `--features proved`, the entries of the proved library; status 1 and the smallest case if any differs.",
         run: sessions::compare,
+    },
+    Command {
+        name: "bench",
+        usage: "[--rounds N]",
+        about: "Measures the proved library against this program, medians of N rounds (200); needs a build with `--features proved`.",
+        run: bench::bench,
     },
     Command {
         name: "assemble",

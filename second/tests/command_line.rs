@@ -107,6 +107,7 @@ fn help_and_errors() {
     for name in [
         "report",
         "compare",
+        "bench",
         "assemble",
         "listing",
         "operands",
@@ -130,7 +131,10 @@ fn help_and_errors() {
     assert!(
         error(&["compare", "--report", "no such program", "1", "1"]).contains("no such program: ")
     );
-    assert!(error(&["compare", "1", "1"]).contains("--report PATH N SEED"));
+    assert!(error(&["compare", "1"]).contains("[--report PATH] N SEED"));
+    assert!(error(&["compare", "1", "1"]).contains("target/bin/report: "));
+    assert!(error(&["bench", "x"]).contains("[--rounds N]"));
+    assert!(cfg!(feature = "proved") || error(&["bench"]).contains("--features proved"));
     assert!(error(&["check-list", "x"]).contains("`x` is not a number"));
 }
 
@@ -149,10 +153,13 @@ fn list_vectors() {
 #[test]
 fn compare_agrees_with_itself() {
     let folder = Folder::new("agrees");
-    assert_eq!(
-        folder.compare("", "300"),
-        (Some(0), "seed 7: 300 sessions, no difference\n".into())
-    );
+    let (status, text) = folder.compare("", "300");
+    let entries = if cfg!(feature = "proved") {
+        ", 45000 entry calls, no difference\n"
+    } else {
+        ", no difference; entries not compared: built without the feature `proved`\n"
+    };
+    assert_eq!((status, text), (Some(0), format!("seed 7: 300 sessions{entries}")));
     assert_eq!(fs::read_dir(&folder.0).unwrap().count(), 1, "only the program is left");
 }
 

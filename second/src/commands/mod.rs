@@ -1,5 +1,6 @@
 //! The subcommands: each takes its arguments and answers what goes to standard output.
 
+pub mod bench;
 pub mod lists;
 pub mod sessions;
 pub mod steps;

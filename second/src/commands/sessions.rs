@@ -2,6 +2,7 @@
 
 use super::{numeral, Outcome, Output};
 use second::compare::{self, Finding};
+use second::entries::Answering;
 use second::report::report_names;
 use std::path::Path;
 
@@ -9,14 +10,24 @@ pub fn report(names: &[String]) -> Outcome {
     Ok(report_names(names).into())
 }
 
+/// The proved library, in a build that has it.
+#[cfg(feature = "proved")]
+const LIBRARY: Option<Answering> = Some(second::proved::answer);
+#[cfg(not(feature = "proved"))]
+const LIBRARY: Option<Answering> = None;
+
+/// Where the kit leaves the report program, seen from the repository's root.
+const REPORT: &str = "target/bin/report";
+
 pub fn compare(arguments: &[String]) -> Outcome {
-    let [flag, program, count, seed] = arguments else {
-        return Err("needs --report PATH N SEED".into());
+    let (program, rest) = match arguments {
+        [flag, program, rest @ ..] if flag == "--report" => (program.as_str(), rest),
+        rest => (REPORT, rest),
     };
-    if flag != "--report" {
-        return Err(format!("`{flag}` is not --report"));
-    }
-    let finding = compare::compare(Path::new(program), numeral(count)?, numeral(seed)?)?;
+    let [count, seed] = rest else {
+        return Err("needs [--report PATH] N SEED".into());
+    };
+    let finding = compare::compare(Path::new(program), LIBRARY, numeral(count)?, numeral(seed)?)?;
     Ok(match finding {
         Finding::AllAgree(text) => text.into(),
         Finding::Difference(text) => Output { bytes: text.into(), status: 1 },

@@ -1,5 +1,6 @@
 //! A smaller session that still shows a difference.
 
+use super::cut::{alter, cut, Way};
 use super::rebuild;
 use crate::list_file;
 use crate::random::sessions::{File, Session, LIST, OPERANDS, SCHEDULE};
@@ -7,14 +8,8 @@ use crate::report::PATTERN_BYTES;
 use crate::words::Fields;
 use std::ops::Range;
 
-/// One way to cut: how many units there are, and the session without some of them.
-struct Way {
-    units: fn(&Session) -> usize,
-    without: fn(&Session, Range<usize>) -> Option<Session>,
-}
-
 /// Whole instructions go first: they take most of the schedule with them.
-const WAYS: [Way; 6] = [
+const WAYS: [Way<Session>; 6] = [
     Way { units: instruction_count, without: without_instructions_and_steps },
     Way {
         units: |session| byte_count(session, SCHEDULE),
@@ -48,22 +43,6 @@ pub fn shrink(session: &Session, mut differs: impl FnMut(&Session) -> bool) -> S
         if best == before {
             return best;
         }
-    }
-}
-
-/// Tries stretches of units, each length half of the one before.
-fn cut(best: &mut Session, way: &Way, differs: &mut impl FnMut(&Session) -> bool) {
-    let mut length = (way.units)(best);
-    while length > 0 {
-        let mut start = 0;
-        while start < (way.units)(best) {
-            let end = (start + length).min((way.units)(best));
-            match (way.without)(best, start..end).filter(|smaller| differs(smaller)) {
-                Some(smaller) => *best = smaller,
-                None => start = end,
-            }
-        }
-        length /= 2;
     }
 }
 
@@ -117,7 +96,8 @@ fn simplify_words(best: &mut Session, differs: &mut impl FnMut(&Session) -> bool
     for place in 0..instruction_count(best) {
         let mut words = list_file::read_words(bytes_of(best, LIST)).unwrap_or_default();
         words[place] = Fields { operand: 0, ..Fields::of(words[place]) }.word();
-        replace(best, LIST, list_file::encode(&words), differs);
+        let file = File::Bytes(list_file::encode(&words));
+        alter(best, differs, |simpler| simpler.files[LIST] = file);
     }
 }
 
@@ -128,24 +108,9 @@ fn simplify_patterns(best: &mut Session, differs: &mut impl FnMut(&Session) -> b
         for number in [0.0f64, 1.0] {
             let mut bytes = bytes_of(best, OPERANDS).to_vec();
             bytes[start..start + PATTERN_BYTES].copy_from_slice(&number.to_be_bytes());
-            if replace(best, OPERANDS, bytes, differs) {
+            if alter(best, differs, |simpler| simpler.files[OPERANDS] = File::Bytes(bytes)) {
                 break;
             }
         }
     }
-}
-
-/// Puts the bytes in if the difference stays; true also when they were there before.
-fn replace(
-    best: &mut Session,
-    index: usize,
-    bytes: Vec<u8>,
-    differs: &mut impl FnMut(&Session) -> bool,
-) -> bool {
-    let simpler = with_bytes(best, index, bytes);
-    let stays = simpler == *best || differs(&simpler);
-    if stays {
-        *best = simpler;
-    }
-    stays
 }

@@ -1,10 +1,14 @@
-//! Random sessions from a seed: good and damaged lists, operands and schedules.
+//! Random sessions and calls from a seed: good and damaged lists, operands, schedules, machines.
 
 pub mod bytes;
+pub mod calls;
 pub mod lists;
+pub mod machines;
 pub mod operands;
 pub mod schedules;
 pub mod sessions;
+pub mod settings;
+mod strain;
 
 /// A small generator of pseudo-random numbers (SplitMix64), so that a seed means the same
 /// sessions everywhere.

@@ -7,7 +7,7 @@ use crate::seven_bit;
 
 /// How the next of the permitted steps is chosen.
 #[derive(Clone, Copy)]
-enum Choice {
+pub enum Choice {
     Any,
     Lowest,
     Highest,
@@ -15,10 +15,21 @@ enum Choice {
     MostlyIssue,
 }
 
+impl Choice {
+    pub fn random(prng: &mut Prng) -> Choice {
+        prng.pick(&CHOICES)
+    }
+
+    /// One of the steps that a machine in good order permits; none when it is drained.
+    pub fn step(self, prng: &mut Prng, machine: &Machine, lent: &Lent) -> Option<Step> {
+        choose(prng, self, &sorted_steps(machine, lent).0)
+    }
+}
+
 /// Codes of permitted steps to the drained machine, or up to one that is known but not permitted
 /// then; none if the list is refused.
 pub fn driven(prng: &mut Prng, lent: &mut Lent) -> Vec<u16> {
-    let choice = prng.pick(&CHOICES);
+    let choice = Choice::random(prng);
     let stop_percent = prng.pick(&[0, 0, 0, 2, 10]);
     let (mut machine, answer) = Machine::fresh(lent, [Number::ZERO; REGISTERS]);
     let mut codes = Vec::new();

@@ -1,0 +1,8 @@
+//! The entries as a C library offers them: a machine is a row of words, and everything else that
+//! is lent is a row too, of any length.
+
+mod call;
+pub mod machine_words;
+pub mod own;
+
+pub use call::{Answering, Call, Entry};
