@@ -33,9 +33,9 @@ fn refused_step_moves_on(machine: &mut Machine, lent: &mut Lent, code: u32) -> A
 }
 
 fn step_does_nothing(machine: &mut Machine, lent: &mut Lent, code: u32) -> Answer {
-    let mut results = lent.results.to_vec();
+    let (mut machine, mut results) = (*machine, lent.results.to_vec());
     let mut copy = Lent { list: lent.list, operands: lent.operands, results: &mut results };
-    (&mut machine.clone()).step(&mut copy, code)
+    machine.step(&mut copy, code)
 }
 
 /// P3: a grant writes F0 although its tag is now another's.

@@ -1,11 +1,9 @@
 //! Both sides give the same answers to what is measured.
 
-use super::work::Work;
-use super::work::Works;
+use super::work::{Work, Works};
 use crate::compare::entries::Answered;
 use crate::entries::machine_words::words_of;
 use crate::entries::{own, Call, Entry};
-use crate::machine::REGISTERS;
 use crate::numbers::Number;
 use crate::proved;
 use crate::words::{CELL_LIMIT, LIST_LIMIT};
@@ -39,7 +37,7 @@ fn call(work: &Work, entry: Entry) -> Call {
     };
     call.operands = work.operands.clone();
     call.results = vec![Number::ZERO; CELL_LIMIT];
-    call.starts = work.starts[..REGISTERS].to_vec();
+    call.starts = work.starts.to_vec();
     call.machine = words_of(&work.machine).to_vec();
     call.places = vec![9; LIST_LIMIT];
     call.cells = call.places.clone();

@@ -1,6 +1,6 @@
 //! Times of two sides, taken in turn.
 
-use super::work::{Work, Works};
+use super::work::{Work, Works, GROUPS};
 use std::time::Instant;
 
 /// Does one round's works and answers how many items they had.
@@ -46,7 +46,7 @@ pub fn medians(tasks: &mut [Task; 2], rounds: usize) -> [Times; 2] {
 impl Task {
     /// The sides change places every second time that a group of works comes round.
     fn one_round(&mut self, round: usize) -> Times {
-        let twin_first = (round / 8 % 2 == 0).then(|| time(&mut self.twin, round));
+        let twin_first = (round / GROUPS).is_multiple_of(2).then(|| time(&mut self.twin, round));
         let proved = time(&mut self.proved, round);
         let carrying_too = self.carrying_too.as_mut().map(|side| time(side, round));
         let twin = twin_first.unwrap_or_else(|| time(&mut self.twin, round));

@@ -10,7 +10,7 @@ use crate::words::{Fields, Operation, CELL_LIMIT};
 use std::rc::Rc;
 
 /// Rounds take these in turn, so that a branch predictor cannot learn one schedule by heart.
-const GROUPS: usize = 8;
+pub const GROUPS: usize = 8;
 
 /// Machines of a group on which good order is tested.
 const STANDS: usize = 128;

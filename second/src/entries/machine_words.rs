@@ -7,6 +7,7 @@ use crate::machine::{Buffer, Machine, Operand, Station, StoreBuffer, Tag};
 use crate::numbers::Number;
 use crate::words::Arithmetic;
 use std::array;
+use std::ops::Range;
 
 pub const WORDS: usize = 77;
 
@@ -16,16 +17,24 @@ struct Slots {
     first_number: usize,
     number_step: usize,
     at: usize,
+    count: usize,
     fields: &'static [&'static str],
 }
 
-const REGISTERS: Slots =
-    Slots { name: "F", first_number: 0, number_step: 2, at: 1, fields: &["kind", "value"] };
+const REGISTERS: Slots = Slots {
+    name: "F",
+    first_number: 0,
+    number_step: 2,
+    at: 1,
+    count: 4,
+    fields: &["kind", "value"],
+};
 const BUFFERS: Slots = Slots {
     name: "buffer ",
     first_number: 1,
     number_step: 1,
     at: 9,
+    count: 6,
     fields: &["state", "place", "cell or number"],
 };
 const STATIONS: Slots = Slots {
@@ -33,6 +42,7 @@ const STATIONS: Slots = Slots {
     first_number: 8,
     number_step: 1,
     at: 27,
+    count: 5,
     fields: &[
         "state",
         "place",
@@ -48,6 +58,7 @@ const STORES: Slots = Slots {
     first_number: 1,
     number_step: 1,
     at: 62,
+    count: 3,
     fields: &["state", "place", "cell", "operand kind", "operand value"],
 };
 
@@ -57,10 +68,15 @@ impl Slots {
     }
 }
 
+/// The kind of slot that a word belongs to; none for the next place and beyond the machine.
+fn kind_of(word: usize) -> Option<Slots> {
+    let kind = [STORES, STATIONS, BUFFERS, REGISTERS].into_iter().find(|slots| word >= slots.at);
+    kind.filter(|_| word < WORDS)
+}
+
 /// The name of a word, such as `station 8 sink kind`.
 pub fn name(word: usize) -> String {
-    let kind = [STORES, STATIONS, BUFFERS, REGISTERS].into_iter().find(|slots| word >= slots.at);
-    let Some(slots) = kind.filter(|_| word < WORDS) else {
+    let Some(slots) = kind_of(word) else {
         return if word == 0 { "next place".into() } else { "beyond the machine".into() };
     };
     let (index, field) =
@@ -69,11 +85,17 @@ pub fn name(word: usize) -> String {
     format!("{}{number} {}", slots.name, slots.fields[field])
 }
 
+/// The words of every slot of the kind that a word belongs to; the next place is a slot alone.
+pub fn slots_like(word: usize) -> Vec<Range<usize>> {
+    kind_of(word).map_or(vec![word..word + 1], |slots| {
+        (0..slots.count).map(|index| slots.place(index)..slots.place(index + 1)).collect()
+    })
+}
+
 /// The words that hold a place, the next place's first.
 pub fn place_words() -> Vec<usize> {
-    let places = |slots: Slots, count| (0..count).map(move |index| slots.place(index) + 1);
-    let held = places(BUFFERS, 6).chain(places(STATIONS, 5)).chain(places(STORES, 3));
-    std::iter::once(0).chain(held).collect()
+    let places = |slots: Slots| (0..slots.count).map(move |index| slots.place(index) + 1);
+    std::iter::once(0).chain([BUFFERS, STATIONS, STORES].into_iter().flat_map(places)).collect()
 }
 
 pub fn machine_of(words: &[u64]) -> Machine {

@@ -99,9 +99,11 @@ impl Calls {
         let mut results = self.setting.results.clone();
         let lent = self.setting.lent(&mut results);
         let permitted = self.choice.step(prng, &self.machine, &lent).map_or(0, Step::code);
+        let blocked = schedules::blocked_step(prng, &self.machine, &lent).map_or(0, Step::code);
         match prng.below(10) {
-            0..=4 => permitted,
-            5..=6 => prng.below(68) as u32,
+            0..=3 => permitted,
+            4..=5 => blocked,
+            6 => prng.below(68) as u32,
             7 => prng.pick(&[7, 16, 23, 24, 39, 45, 48, 55, 61, 64, 68, 80, 127, 128, 255]),
             8 => permitted.wrapping_add(prng.pick(&[1 << 7, 1 << 8, 1 << 16, 1 << 31])),
             _ => {

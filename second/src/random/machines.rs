@@ -1,6 +1,7 @@
 //! Damage to the words of a machine.
 
 use super::{operands, Prng};
+use crate::entries::machine_words::{slots_like, WORDS};
 
 /// Tags at the edges of their ranges; small numbers are also states, kinds and operations.
 const SMALL: [u64; 12] = [0, 1, 2, 3, 4, 6, 7, 8, 9, 12, 13, 255];
@@ -8,12 +9,24 @@ const SMALL: [u64; 12] = [0, 1, 2, 3, 4, 6, 7, 8, 9, 12, 13, 255];
 /// Numbers that are small when cut to 8, 16 or 32 bits, and the greatest.
 const LARGE: [u64; 6] = [1 << 8, 1 << 16, 1 << 32, 1 << 63, u64::MAX - 20, u64::MAX];
 
-/// Gives one to three words other values; `edges` are the lengths that places and cells are held to.
+/// Damages a machine's 77 words in one to three places; `edges` are the lengths that places and
+/// cells are held to.
 pub fn damage(prng: &mut Prng, words: &mut [u64], edges: &[usize]) {
     for _ in 0..=prng.below(3) {
-        let at = prng.below(words.len());
-        words[at] = value(prng, words, at, edges);
+        let at = prng.below(WORDS);
+        if prng.percent(15) {
+            copy_slot(prng, words, at);
+        } else {
+            words[at] = value(prng, words, at, edges);
+        }
     }
+}
+
+/// One slot becomes the copy of another of its kind.
+fn copy_slot(prng: &mut Prng, words: &mut [u64], at: usize) {
+    let slots = slots_like(at);
+    let [from, to] = [(); 2].map(|()| slots[prng.below(slots.len())].clone());
+    words.copy_within(from, to.start);
 }
 
 fn value(prng: &mut Prng, words: &[u64], at: usize, edges: &[usize]) -> u64 {
@@ -26,6 +39,14 @@ fn value(prng: &mut Prng, words: &[u64], at: usize, edges: &[usize]) -> u64 {
         5 => words[at].wrapping_sub(1).wrapping_add(2 * prng.below(2) as u64),
         6 => operands::pattern(prng),
         7 => prng.number(),
-        _ => words[prng.below(words.len())],
+        8 => words[prng.below(WORDS)],
+        _ => same_field(prng, words, at),
     }
+}
+
+/// The word that stands in a slot of the same kind where this one stands in its own.
+fn same_field(prng: &mut Prng, words: &[u64], at: usize) -> u64 {
+    let slots = slots_like(at);
+    let field = (at - slots[0].start) % slots[0].len();
+    words[slots[prng.below(slots.len())].start + field]
 }

@@ -26,6 +26,11 @@ impl Choice {
     }
 }
 
+/// A step of something that is there but not ready; none when all that is there is ready.
+pub fn blocked_step(prng: &mut Prng, machine: &Machine, lent: &Lent) -> Option<Step> {
+    choose(prng, Choice::Any, &sorted_steps(machine, lent).1)
+}
+
 /// Codes of permitted steps to the drained machine, or up to one that is known but not permitted
 /// then; none if the list is refused.
 pub fn driven(prng: &mut Prng, lent: &mut Lent) -> Vec<u16> {

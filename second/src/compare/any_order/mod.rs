@@ -6,9 +6,9 @@ mod promises;
 use super::cut::{alter, cut, row_way, Way};
 use super::explain_call::numbers;
 use crate::list_file;
-use crate::machine::{Lent, Machine, REGISTERS};
+use crate::machine::{Lent, Machine, Step, REGISTERS};
 use crate::numbers::Number;
-use crate::random::schedules::Choice;
+use crate::random::schedules::{self, Choice};
 use crate::random::settings::Setting;
 use crate::random::Prng;
 use crate::refusal::Refusal;
@@ -53,7 +53,7 @@ const WAYS: [Way<Journey>; 4] = [
 ];
 
 impl Journey {
-    /// Permitted steps to the drained machine, and a code of any sort before every fourth.
+    /// Permitted steps to the drained machine, and a code that may be refused before every fourth.
     fn random(prng: &mut Prng, take: TakeStep) -> Journey {
         let setting = Setting::random(prng, LONGEST_LIST);
         let choice = Choice::random(prng);
@@ -63,7 +63,9 @@ impl Journey {
         let mut codes = Vec::new();
         for _ in 0..machine.steps_left(&lent).unwrap_or(0) {
             if prng.percent(25) {
-                codes.push(prng.below(70) as u32);
+                let blocked = schedules::blocked_step(prng, &machine, &lent);
+                let any = prng.below(70) as u32;
+                codes.push(blocked.filter(|_| prng.percent(50)).map_or(any, Step::code));
                 let _ = take(&mut machine, &mut lent, codes[codes.len() - 1]);
             }
             let Some(step) = choice.step(prng, &machine, &lent) else {
