@@ -182,3 +182,11 @@ fn compare_minds_the_exit_status() {
     assert_eq!(status, Some(1));
     assert!(text.contains("the program prints, with exit status: 3:\n"), "{text}");
 }
+
+#[cfg(feature = "proved")]
+#[test]
+fn bench_has_a_row_for_each_bar() {
+    let table = String::from_utf8(printed(&["bench", "--rounds", "1"])).unwrap();
+    let bars = table.lines().filter(|line| line.matches("met").count() == 2).count();
+    assert_eq!(bars, 6, "{table}");
+}

@@ -33,8 +33,9 @@ fn line(row: &MeasuredRow) -> String {
     )
 }
 
+/// What is subtracted can exceed what was measured; such a figure meets nothing.
 fn met(value: f64, bar: f64) -> &'static str {
-    if value <= bar {
+    if value > 0.0 && value <= bar {
         "met"
     } else {
         "NOT met"

@@ -37,9 +37,9 @@ impl Works {
         let mut prng = Prng::new(91);
         Works::of(lists, || {
             let list = (0..length).map(|_| random_word(&mut prng)).collect();
-            let machine_steps =
+            let any_permitted =
                 |machine: &Machine, lent: &Lent, _| Choice::Any.step(&mut prng, machine, lent);
-            Work::new(list, STANDS / lists, machine_steps)
+            Work::new(list, STANDS / lists, any_permitted)
         })
     }
 
@@ -54,10 +54,10 @@ impl Works {
         Works::of(lists, || {
             let list: Vec<u32> = (0..length / LOOP.len() * LOOP.len()).map(word).collect();
             let count = list.len() / LOOP.len() * CODES.len();
-            let step = |_: &Machine, _: &Lent, taken: usize| {
+            let next_of_loop = |_: &Machine, _: &Lent, taken: usize| {
                 Step::of_code(CODES[taken % CODES.len()]).filter(|_| taken < count)
             };
-            Work::new(list, STANDS / lists, step)
+            Work::new(list, STANDS / lists, next_of_loop)
         })
     }
 
@@ -74,7 +74,7 @@ impl Works {
     }
 }
 
-/// Any operation; numbers near 1, so that no side meets slow subnormals.
+/// Any operation, register and cell.
 fn random_word(prng: &mut Prng) -> u32 {
     let operation = 1 + prng.below(11) as u32;
     let takes_register = Operation::of_number(operation).is_ok_and(Operation::takes_register);
@@ -91,6 +91,7 @@ impl Work {
         stands: usize,
         mut next: impl FnMut(&Machine, &Lent, usize) -> Option<Step>,
     ) -> Work {
+        // Near 1, so that neither side meets many slow subnormals.
         let operands: Vec<Number> =
             (0..CELL_LIMIT).map(|cell| Number(0.75 + cell as f64 / 512.0)).collect();
         let starts = [1.0, 1.25, 0.75, 1.5].map(Number);
