@@ -1,7 +1,7 @@
 //! A call that is answered in two ways, as text.
 
 use super::entries::Answered;
-use crate::entries::{machine_words, Call, Entry};
+use crate::entries::{machine_words, Call, Entry, WROTE_BEYOND};
 use crate::numbers::Number;
 use std::fmt::{Display, LowerHex};
 
@@ -9,13 +9,16 @@ use std::fmt::{Display, LowerHex};
 const SHOWN: usize = 40;
 
 pub fn difference(given: &Call, own: &Answered, other: &Answered) -> String {
+    let other_answer = match other.returned {
+        WROTE_BEYOND => "after writing beyond a row".into(),
+        returned => returned.to_string(),
+    };
     format!(
-        "{} is answered in two ways\nsmallest case found:\n{}second answers {}:\n{}the library answers {}:\n{}",
+        "{} is answered in two ways\nsmallest case found:\n{}second answers {}:\n{}the library answers {other_answer}:\n{}",
         given.entry.name(),
         case(given),
         own.returned,
         changes(given, &own.lent),
-        other.returned,
         changes(given, &other.lent),
     )
 }

@@ -74,6 +74,9 @@ pub struct Call {
 /// Takes a call: alters what is lent and returns the refusal number, or 0 and 1 for false and true.
 pub type Answering = fn(&mut Call) -> u32;
 
+/// Returned in place of the answer of a library that wrote beyond a row; no entry answers so.
+pub const WROTE_BEYOND: u32 = u32::MAX;
+
 impl Call {
     pub fn of(entry: Entry) -> Call {
         Call {

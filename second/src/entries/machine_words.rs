@@ -6,8 +6,8 @@
 use crate::machine::{Buffer, Machine, Operand, Station, StoreBuffer, Tag};
 use crate::numbers::Number;
 use crate::words::Arithmetic;
-use std::array;
 use std::ops::Range;
+use std::{array, iter};
 
 pub const WORDS: usize = 77;
 
@@ -87,15 +87,16 @@ pub fn name(word: usize) -> String {
 
 /// The words of every slot of the kind that a word belongs to; the next place is a slot alone.
 pub fn slots_like(word: usize) -> Vec<Range<usize>> {
-    kind_of(word).map_or(vec![word..word + 1], |slots| {
-        (0..slots.count).map(|index| slots.place(index)..slots.place(index + 1)).collect()
-    })
+    let Some(slots) = kind_of(word) else {
+        return iter::once(word..word + 1).collect();
+    };
+    (0..slots.count).map(|index| slots.place(index)..slots.place(index + 1)).collect()
 }
 
 /// The words that hold a place, the next place's first.
 pub fn place_words() -> Vec<usize> {
     let places = |slots: Slots| (0..slots.count).map(move |index| slots.place(index) + 1);
-    std::iter::once(0).chain([BUFFERS, STATIONS, STORES].into_iter().flat_map(places)).collect()
+    iter::once(0).chain([BUFFERS, STATIONS, STORES].into_iter().flat_map(places)).collect()
 }
 
 pub fn machine_of(words: &[u64]) -> Machine {

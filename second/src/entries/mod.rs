@@ -5,4 +5,4 @@ mod call;
 pub mod machine_words;
 pub mod own;
 
-pub use call::{Answering, Call, Entry};
+pub use call::{Answering, Call, Entry, WROTE_BEYOND};

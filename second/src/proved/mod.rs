@@ -1,24 +1,60 @@
 //! The calls answered by the proved library.
 
+mod guarded;
 pub mod library;
 
-use crate::entries::{Call, Entry};
+use crate::entries::{Call, Entry, WROTE_BEYOND};
+use crate::numbers::Number;
+use guarded::Guarded;
+
+const GUARD: u64 = 0x5EED_BEAD_5EED_BEAD;
 
 pub fn answer(call: &mut Call) -> u32 {
-    let Call { machine, list, operands, results, starts, file, answer, .. } = call;
-    match call.entry {
+    let number = Number::from_pattern(GUARD);
+    let mut machine = Guarded::new(&mut call.machine, GUARD);
+    let mut list = Guarded::new(&mut call.list, GUARD as u32);
+    let mut results = Guarded::new(&mut call.results, number);
+    let mut starts = Guarded::new(&mut call.starts, number);
+    let mut file = Guarded::new(&mut call.file, GUARD as u8);
+    let mut places = Guarded::new(&mut call.places, GUARD);
+    let mut cells = Guarded::new(&mut call.cells, GUARD);
+    let mut numbers = Guarded::new(&mut call.numbers, number);
+    let mut answer = Guarded::new(&mut call.answer, GUARD);
+    let returned = lend(
+        (call.entry, call.code, &call.operands),
+        (machine.lent(), list.lent(), results.lent(), starts.lent(), file.lent()),
+        (places.lent(), cells.lent(), numbers.lent()),
+        answer.lent(),
+    );
+    let words = [machine.close(), places.close(), cells.close(), answer.close()];
+    let numbers = [results.close(), starts.close(), numbers.close()];
+    let intact = [list.close(), file.close()].iter().chain(&words).chain(&numbers).all(|&row| row);
+    if intact {
+        returned
+    } else {
+        WROTE_BEYOND
+    }
+}
+
+type Rows<'a> = (&'a mut [u64], &'a mut [u32], &'a mut [Number], &'a mut [Number], &'a mut [u8]);
+type Log<'a> = (&'a mut [u64], &'a mut [u64], &'a mut [Number]);
+
+fn lend(
+    (entry, code, operands): (Entry, u32, &[Number]),
+    (machine, list, results, starts, file): Rows,
+    log: Log,
+    answer: &mut [u64],
+) -> u32 {
+    match entry {
         Entry::ReadList => library::read_list(file, list, answer),
         Entry::WriteList => library::write_list(list, file, answer),
         Entry::Fresh => library::fresh(list, operands, results, starts, machine),
-        Entry::Step => library::step(machine, list, operands, results, call.code, answer),
+        Entry::Step => library::step(machine, list, operands, results, code, answer),
         Entry::GoodOrder => u32::from(library::good_order(machine, list, operands, results)),
         Entry::Drained => u32::from(library::drained(machine, list)),
         Entry::StepsLeft => library::steps_left(machine, list, operands, results, answer),
         Entry::LowestStep => library::lowest_step(machine, list, operands, results, answer),
         Entry::OneAtATime => library::one_at_a_time(list, operands, results, starts),
-        Entry::Run => {
-            let log = (&mut call.places[..], &mut call.cells[..], &mut call.numbers[..]);
-            library::run(machine, list, operands, results, file, log, answer)
-        }
+        Entry::Run => library::run(machine, list, operands, results, file, log, answer),
     }
 }
