@@ -95,8 +95,8 @@ fn equal_cells_pass(call: &mut Call) -> u32 {
 
 fn not_a_number_is_zero(call: &mut Call) -> u32 {
     let returned = own::answer(call);
-    for number in call.numbers.iter_mut().filter(|number| number.0.is_nan()) {
-        *number = Number::ZERO;
+    for pattern in call.log.iter_mut().filter(|word| f64::from_bits(**word).is_nan()) {
+        *pattern = 0;
     }
     returned
 }

@@ -3,7 +3,7 @@
 use super::work::{Work, Works};
 use crate::compare::entries::Answered;
 use crate::entries::machine_words::words_of;
-use crate::entries::{own, Call, Entry};
+use crate::entries::{own, Call, Entry, RECORD_WORDS};
 use crate::numbers::Number;
 use crate::proved;
 use crate::words::{CELL_LIMIT, LIST_LIMIT};
@@ -39,16 +39,14 @@ fn call(work: &Work, entry: Entry) -> Call {
     call.results = vec![Number::ZERO; CELL_LIMIT];
     call.starts = work.starts.to_vec();
     call.machine = words_of(&work.machine).to_vec();
-    call.places = vec![9; LIST_LIMIT];
-    call.cells = call.places.clone();
-    call.numbers = vec![Number::ZERO; LIST_LIMIT];
+    call.log = vec![9; LIST_LIMIT * RECORD_WORDS];
     call
 }
 
 /// Every step, one call each, and good order of the machines on the way.
 fn same_steps(work: &Work) -> Result<(), String> {
     let mut step = call(work, Entry::Step);
-    (step.file, step.places, step.cells, step.numbers) = Default::default();
+    (step.file, step.log) = Default::default();
     for &code in &work.codes {
         step.code = code;
         step = same(&step)?;

@@ -3,6 +3,7 @@
 use super::measure::{medians, side, Side, Task, Times};
 use super::work::{Work, Works};
 use crate::entries::machine_words::{words_of, WORDS};
+use crate::entries::RECORD_WORDS;
 use crate::list_file;
 use crate::machine::{Lent, Machine, Record, Step};
 use crate::numbers::Number;
@@ -90,13 +91,11 @@ fn cells() -> Vec<Number> {
 
 fn run(works: &Works) -> Task {
     let (mut results, mut answer) = (cells(), [0; 3]);
-    let (mut places, mut log_cells, mut numbers) =
-        (vec![0; LIST_LIMIT], vec![0; LIST_LIMIT], vec![Number::ZERO; LIST_LIMIT]);
+    let mut log = vec![0; LIST_LIMIT * RECORD_WORDS];
     let proved = side(works, move |work| {
         let mut machine = words_of(&work.machine);
-        let log = (&mut places[..], &mut log_cells[..], &mut numbers[..]);
         let Work { list, operands, schedule, .. } = work;
-        library::run(&mut machine, list, operands, &mut results, schedule, log, &mut answer);
+        library::run(&mut machine, list, operands, &mut results, schedule, &mut log, &mut answer);
         work.codes.len()
     });
     let mut results = cells();

@@ -60,16 +60,14 @@ struct Row {
     text: String,
 }
 
-fn rows(call: &Call) -> [Row; 9] {
+fn rows(call: &Call) -> [Row; 7] {
     [
         hexadecimal("list", &call.list),
         decimal("operands", &call.operands),
         decimal("results", &call.results),
         decimal("starts", &call.starts),
         hexadecimal("file", &call.file),
-        decimal("log places", &call.places),
-        decimal("log cells", &call.cells),
-        decimal("log numbers", &call.numbers),
+        hexadecimal("log", &call.log),
         decimal("answer", &call.answer),
     ]
 }

@@ -6,16 +6,14 @@ use crate::entries::Call;
 use crate::numbers::Number;
 use std::ops::Range;
 
-const WAYS: [Way<Call>; 9] = [
+const WAYS: [Way<Call>; 7] = [
     Way { units: |call| call.list.len(), without: without_instructions },
     row_way!(list),
     row_way!(file),
     row_way!(operands),
     row_way!(results),
     row_way!(starts),
-    row_way!(places),
-    row_way!(cells),
-    row_way!(numbers),
+    row_way!(log),
 ];
 
 /// Cuts and simplifies as long as `differs` still holds.
@@ -60,12 +58,8 @@ fn simplify_machine(best: &mut Call, differs: &mut impl FnMut(&Call) -> bool) {
 
 /// Makes the numbers lent +0 or 1.
 fn simplify_numbers(best: &mut Call, differs: &mut impl FnMut(&Call) -> bool) {
-    let rows: [fn(&mut Call) -> &mut Vec<Number>; 4] = [
-        |call| &mut call.operands,
-        |call| &mut call.results,
-        |call| &mut call.starts,
-        |call| &mut call.numbers,
-    ];
+    let rows: [fn(&mut Call) -> &mut Vec<Number>; 3] =
+        [|call| &mut call.operands, |call| &mut call.results, |call| &mut call.starts];
     for row in rows {
         for index in 0..row(best).len() {
             for number in [0.0, 1.0] {

@@ -63,10 +63,8 @@ pub struct Call {
     pub code: u32,
     /// A list file or a schedule; for the writer the bytes it may write.
     pub file: Vec<u8>,
-    /// The release log, part by part.
-    pub places: Vec<u64>,
-    pub cells: Vec<u64>,
-    pub numbers: Vec<Number>,
+    /// The release log, `RECORD_WORDS` to a record.
+    pub log: Vec<u64>,
     /// Answers beyond the one returned; for a step what it released.
     pub answer: Vec<u64>,
 }
@@ -88,9 +86,7 @@ impl Call {
             starts: Vec::new(),
             code: 0,
             file: Vec::new(),
-            places: Vec::new(),
-            cells: Vec::new(),
-            numbers: Vec::new(),
+            log: Vec::new(),
             answer: Vec::new(),
         }
     }

@@ -6,3 +6,6 @@ pub mod machine_words;
 pub mod own;
 
 pub use call::{Answering, Call, Entry, WROTE_BEYOND};
+
+/// A record of the log: place, cell, pattern.
+pub const RECORD_WORDS: usize = 3;

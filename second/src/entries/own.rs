@@ -1,7 +1,7 @@
 //! The calls answered by this program's own machine.
 
 use super::machine_words::{machine_of, words_of};
-use super::{Call, Entry};
+use super::{Call, Entry, RECORD_WORDS};
 use crate::list_file;
 use crate::machine::{Machine, Record, Step, REGISTERS};
 use crate::numbers::Number;
@@ -68,12 +68,19 @@ fn step(call: &mut Call) -> u32 {
     };
     let answer = machine.step(&mut call.lent(), code);
     let released = match record.filter(|_| answer.is_ok()) {
-        Some(Record { place, cell, number }) => [1, place as u64, cell as u64, number.pattern()],
+        Some(record) => {
+            let [place, cell, pattern] = record_words(&record);
+            [1, place, cell, pattern]
+        }
         None => [0; 4],
     };
     put(&mut call.machine, &words_of(&machine));
     put(&mut call.answer, &released);
     Refusal::number_of(&answer)
+}
+
+fn record_words(record: &Record) -> [u64; RECORD_WORDS] {
+    [record.place as u64, record.cell as u64, record.number.pattern()]
 }
 
 fn steps_left(call: &mut Call) -> u32 {
@@ -100,14 +107,13 @@ fn one_at_a_time(call: &mut Call) -> u32 {
 
 fn run(call: &mut Call) -> u32 {
     let mut machine = machine_of(&call.machine);
-    let mut log = vec![Record { place: 0, cell: 0, number: Number::ZERO }; call.places.len()];
+    let room = call.log.len() / RECORD_WORDS;
+    let mut log = vec![Record { place: 0, cell: 0, number: Number::ZERO }; room];
     let schedule = std::mem::take(&mut call.file);
     let answer = schedule::run(&mut machine, &mut call.lent(), &schedule, &mut log);
     call.file = schedule;
-    for (index, record) in log[..answer.records].iter().enumerate() {
-        put(&mut call.places[index..], &[record.place as u64]);
-        put(call.cells.get_mut(index..).unwrap_or_default(), &[record.cell as u64]);
-        put(call.numbers.get_mut(index..).unwrap_or_default(), &[record.number]);
+    for (words, record) in call.log.chunks_exact_mut(RECORD_WORDS).zip(&log[..answer.records]) {
+        words.copy_from_slice(&record_words(record));
     }
     put(&mut call.machine, &words_of(&machine));
     put(&mut call.answer, &[answer.steps, answer.place, answer.records].map(|count| count as u64));

@@ -112,12 +112,8 @@ mod c {
             results_length: usize,
             schedule: *const u8,
             schedule_length: usize,
-            places: *mut u64,
-            places_length: usize,
-            cells: *mut u64,
-            cells_length: usize,
-            numbers: *mut Number,
-            numbers_length: usize,
+            log: *mut u64,
+            log_length: usize,
             answer: *mut u64,
             answer_length: usize,
         ) -> u32;
@@ -210,16 +206,16 @@ pub fn one_at_a_time(
     call!(wethertide_one_at_a_time: in words in operands out results out registers)
 }
 
-/// The log is lent part by part: places, cells, numbers.
+/// The log has three words a record: place, cell, pattern.
 pub fn run(
     machine: &mut [u64],
     words: &[u32],
     operands: &[Number],
     results: &mut [Number],
     schedule: &[u8],
-    (places, cells, numbers): (&mut [u64], &mut [u64], &mut [Number]),
+    log: &mut [u64],
     answer: &mut [u64],
 ) -> u32 {
     call!(wethertide_run: out machine in words in operands out results in schedule
-        out places out cells out numbers out answer)
+        out log out answer)
 }

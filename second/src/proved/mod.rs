@@ -16,18 +16,15 @@ pub fn answer(call: &mut Call) -> u32 {
     let mut results = Guarded::new(&mut call.results, number);
     let mut starts = Guarded::new(&mut call.starts, number);
     let mut file = Guarded::new(&mut call.file, GUARD as u8);
-    let mut places = Guarded::new(&mut call.places, GUARD);
-    let mut cells = Guarded::new(&mut call.cells, GUARD);
-    let mut numbers = Guarded::new(&mut call.numbers, number);
+    let mut log = Guarded::new(&mut call.log, GUARD);
     let mut answer = Guarded::new(&mut call.answer, GUARD);
     let returned = lend(
         (call.entry, call.code, &call.operands),
         (machine.lent(), list.lent(), results.lent(), starts.lent(), file.lent()),
-        (places.lent(), cells.lent(), numbers.lent()),
-        answer.lent(),
+        (log.lent(), answer.lent()),
     );
-    let words = [machine.close(), places.close(), cells.close(), answer.close()];
-    let numbers = [results.close(), starts.close(), numbers.close()];
+    let words = [machine.close(), log.close(), answer.close()];
+    let numbers = [results.close(), starts.close()];
     let intact = [list.close(), file.close()].iter().chain(&words).chain(&numbers).all(|&row| row);
     if intact {
         returned
@@ -37,13 +34,11 @@ pub fn answer(call: &mut Call) -> u32 {
 }
 
 type Rows<'a> = (&'a mut [u64], &'a mut [u32], &'a mut [Number], &'a mut [Number], &'a mut [u8]);
-type Log<'a> = (&'a mut [u64], &'a mut [u64], &'a mut [Number]);
 
 fn lend(
     (entry, code, operands): (Entry, u32, &[Number]),
     (machine, list, results, starts, file): Rows,
-    log: Log,
-    answer: &mut [u64],
+    (log, answer): (&mut [u64], &mut [u64]),
 ) -> u32 {
     match entry {
         Entry::ReadList => library::read_list(file, list, answer),

@@ -4,10 +4,9 @@ use super::schedules::{self, Choice};
 use super::settings::{number, Setting};
 use super::{bytes, strain, Prng};
 use crate::entries::machine_words::words_of;
-use crate::entries::{Call, Entry};
+use crate::entries::{Call, Entry, RECORD_WORDS};
 use crate::list_file;
 use crate::machine::{Machine, Step};
-use crate::numbers::Number;
 use crate::words::LIST_LIMIT;
 
 /// How often each entry is called, in all a hundred.
@@ -118,14 +117,9 @@ impl Calls {
         if prng.percent(20) {
             bytes::damage(prng, &mut call.file);
         }
+        let cut = prng.pick(&[0, 0, 0, 1, 2]);
         let room = prng.pick(&[0, 1, 2, 3, 5, 40]);
-        call.places = vec![prng.number(); room];
-        call.cells = vec![prng.number(); room];
-        call.numbers = vec![number(prng); room];
-        if prng.percent(5) {
-            call.cells.truncate(prng.below(room + 1));
-            call.numbers.resize(prng.below(room + 2), Number::ZERO);
-        }
+        call.log = vec![prng.number(); room * RECORD_WORDS + cut];
     }
 
     /// Permitted steps from this machine on, at most 150, some with a stray code among them.
