@@ -1,3 +1,4 @@
+pub mod Back
 pub mod Determined
 pub mod Entries
 pub mod Logging

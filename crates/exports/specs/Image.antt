@@ -43,6 +43,11 @@ storesFrom = 62
 abbrev pub storeWidth : ℕ
 storeWidth = 5
 
+-- so many slots, one after another
+abbrev pub rowAt : {A : Type 0} → (ℕ → A) → (width count place : ℕ) → List A
+rowAt slotAt width zero p = []
+rowAt slotAt width (suc n) p = slotAt p ∷ rowAt slotAt width n (p + width)
+
 -- READING. A kind or state above the last one reads as the last one; a tag is the word's low eight bits.
 module _ (image : List ℕ) where
   abbrev pub operandAt : (place : ℕ) → Operand Float
@@ -72,11 +77,6 @@ module _ (image : List ℕ) where
   abbrev pub storeAt : (place : ℕ) → StoreBuffer Float
   storeAt p =
       cond (eqb (wordAt image p) 0) freeStore (live (wordAt image (p + 1)) (wordAt image (p + 2)) (operandAt (p + 3)))
-
-  -- so many slots, one after another
-  abbrev pub rowAt : {A : Type 0} → (ℕ → A) → (width count place : ℕ) → List A
-  rowAt slotAt width zero p = []
-  rowAt slotAt width (suc n) p = slotAt p ∷ rowAt slotAt width n (p + width)
 
   abbrev pub machineIn : Machine Float
   machineIn = record {

@@ -2,3 +2,4 @@ pub mod Entries
 pub mod Image
 pub mod Logging
 pub mod Rows
+pub mod Theorem
