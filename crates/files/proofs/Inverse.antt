@@ -5,7 +5,7 @@ use mathlib.Core.List.{List}
 use Prim.Native.Nat.{ℕ}
 use native.Mathlib.Omega.{arith}
 use lib.Dec.{eqb}
-use borrow.Author.Tests.{eqb-true}
+use borrow.Author.Tests.{eqb-true, ne-eqb}
 use Rattle.files.specs.declared.number.Parsed as code
 use Rattle.files.specs.SevenBits.{Parsed, accepted, refused, numberAt}
 use Rattle.files.specs.Told.{told}
@@ -42,6 +42,22 @@ field-of own bytes at {value} {next} e = go (numberAt bytes at) refl e
     go : (p : Parsed ℕ) → numberAt bytes at ≡ p → owned own at p ≡ accepted value next → Field own bytes at value next
     go (accepted u m) q e = tested u m (eqb (own u) 0) refl q e
     go (refused r p) q e = not-accepted e
+
+-- a field by the number that stands there and what was computed as its own refusal
+module _ (own : ℕ → ℕ) (bytes : List ℕ) (at : ℕ) where
+  pub field-passes : {value next is : ℕ} → numberAt bytes at ≡ accepted value next → is ≡ own value → is ≡ 0
+      → fieldAt own bytes at ≡ accepted value next
+  unfolding fieldAt
+  field-passes e o z = rw (e, ← o, z)
+
+  pub field-fails : {value next is : ℕ} → numberAt bytes at ≡ accepted value next → is ≡ own value → (is ≡ 0 → ⊥)
+      → fieldAt own bytes at ≡ refused is at
+  unfolding fieldAt
+  field-fails {is = is} e o n = rw (e, ← o, ne-eqb is 0 n)
+
+  pub field-broken : {refusal place : ℕ} → numberAt bytes at ≡ refused refusal place → fieldAt own bytes at ≡ refused refusal place
+  unfolding fieldAt
+  field-broken e = rw e
 
 -- what comes after an accepted part
 pub record Then {A B : Type 0} (part : Parsed A) (later : A → ℕ → Parsed B) (value : B) (end : ℕ) : Type 0 where

@@ -3,51 +3,17 @@ use crate::Read;
 use crate::number::Parsed;
 use crate::number::number_at;
 use words::CELL_LIMIT;
-use words::Form;
 use words::LIST_LIMIT;
 use words::refusal;
 ghost use mathlib.Core.Path.{_≡_};
-ghost use mathlib.Core.Bool.{cond, true};
+ghost use mathlib.Core.Bool.{true};
 ghost use Prim.Native.Nat.{_≤_, _<_};
-ghost use lib.Dec.{eqb};
 ghost use lib.ListN.{length};
 ghost use Rattle.words.specs.Instructions.{wordOf};
 ghost use Rattle.words.specs.Check.{operationRefusal, registerRefusal};
-ghost use Rattle.files.specs.SevenBits.{accepted, refused};
-ghost use Rattle.files.specs.Told.{told, own};
-ghost use Rattle.files.specs.Reading.{fieldAt, operandAt, r1At, wordAt, wordsAt, countRefusal, answered, stored, readAnswer, readWords};
+ghost use Rattle.files.specs.Told.{told};
+ghost use Rattle.files.specs.Reading.{operandAt, r1At, wordAt, wordsAt, countRefusal, answered, stored, readAnswer, readWords};
 ghost use Rattle.files.specs.Passes.{counted, isAccepted, laidWords};
-
-// What a number of a list file is.
-pub enum Field {
-    Count(usize),
-    Operation,
-    R1,
-    Operand(Form),
-}
-
-// A number that was read at a place, with its own refusal.
-fn owned(at: usize, value: u32, next: usize, own: u32) -> Parsed
-    ensures { λ r. ⌜ told r ≡ cond (eqb own 0) (accepted value next) (refused own at) ⌝ }
-{
-    if own == 0 {
-        Parsed::Accepted(value, next)
-    } else {
-        Parsed::Refused(own, at)
-    }
-}
-
-// The number's own refusal, by what it is in a list file.
-fn own_refusal(field: Field, value: u32) -> u32
-    ensures { λ r. ⌜ r ≡ own field value ⌝ }
-{
-    match field {
-        Field::Count(room) => count_refusal(room, value as usize),
-        Field::Operation => words::operation_refusal(value),
-        Field::R1 => words::register_refusal(value),
-        Field::Operand(form) => words::operand_refusal(form, value, CELL_LIMIT, CELL_LIMIT),
-    }
-}
 
 // After the count 1, then 11 if the word buffer is short.
 fn count_refusal(room: usize, count: usize) -> u32
@@ -60,16 +26,6 @@ fn count_refusal(room: usize, count: usize) -> u32
         return refusal::ROOM;
     }
     refusal::ACCEPTED
-}
-
-// For each number 8, 9, then its own refusal.
-fn field_at(field: Field, bytes: &[u8], at: usize) -> Parsed
-    ensures { λ r. ⌜ told r ≡ fieldAt (own field) (now (bytes .entry)) at ⌝ }
-{
-    match number_at(bytes, at) {
-        Parsed::Accepted(value, next) => owned(at, value, next, own_refusal(field, value)),
-        Parsed::Refused(refusal, place) => Parsed::Refused(refusal, place),
-    }
 }
 
 // The word of three fields, each within its bits.
@@ -85,8 +41,15 @@ fn operand_at(operation: u32, r1: u32, bytes: &[u8], at: usize) -> Parsed
     requires { ⌜ (operationRefusal operation ≡ 0) × (registerRefusal r1 ≡ 0) ⌝ }
     ensures { λ r. ⌜ told r ≡ operandAt operation r1 (now (bytes .entry)) at ⌝ }
 {
-    match field_at(Field::Operand(words::form_of(operation)), bytes, at) {
-        Parsed::Accepted(operand, next) => Parsed::Accepted(word_of(operation, r1, operand), next),
+    match number_at(bytes, at) {
+        Parsed::Accepted(operand, next) => {
+            let form = words::form_of(operation);
+            let own = words::operand_refusal(form, operand, CELL_LIMIT, CELL_LIMIT);
+            if own != 0 {
+                return Parsed::Refused(own, at);
+            }
+            Parsed::Accepted(word_of(operation, r1, operand), next)
+        }
         Parsed::Refused(refusal, place) => Parsed::Refused(refusal, place),
     }
 }
@@ -96,8 +59,14 @@ fn r1_at(operation: u32, bytes: &[u8], at: usize) -> Parsed
     requires { ⌜ operationRefusal operation ≡ 0 ⌝ }
     ensures { λ r. ⌜ told r ≡ r1At operation (now (bytes .entry)) at ⌝ }
 {
-    match field_at(Field::R1, bytes, at) {
-        Parsed::Accepted(r1, next) => operand_at(operation, r1, bytes, next),
+    match number_at(bytes, at) {
+        Parsed::Accepted(r1, next) => {
+            let own = words::register_refusal(r1);
+            if own != 0 {
+                return Parsed::Refused(own, at);
+            }
+            operand_at(operation, r1, bytes, next)
+        }
         Parsed::Refused(refusal, place) => Parsed::Refused(refusal, place),
     }
 }
@@ -105,8 +74,14 @@ fn r1_at(operation: u32, bytes: &[u8], at: usize) -> Parsed
 fn word_at(bytes: &[u8], at: usize) -> Parsed
     ensures { λ r. ⌜ told r ≡ wordAt (now (bytes .entry)) at ⌝ }
 {
-    match field_at(Field::Operation, bytes, at) {
-        Parsed::Accepted(operation, next) => r1_at(operation, bytes, next),
+    match number_at(bytes, at) {
+        Parsed::Accepted(operation, next) => {
+            let own = words::operation_refusal(operation);
+            if own != 0 {
+                return Parsed::Refused(own, at);
+            }
+            r1_at(operation, bytes, next)
+        }
         Parsed::Refused(refusal, place) => Parsed::Refused(refusal, place),
     }
 }
@@ -155,6 +130,16 @@ fn store_words(bytes: &[u8], start: usize, count: u32, words: &mut [u32])
     }
 }
 
+fn refused(refusal: u32, place: usize) -> Read
+    ensures { λ r. ⌜ r ≡ record { count = 0; refusal = refusal; place = place } ⌝ }
+{
+    Read {
+        count: 0,
+        refusal,
+        place,
+    }
+}
+
 // A file whose count was accepted: nothing is written before the whole file is.
 fn read_words(bytes: &[u8], start: usize, count: u32, words: &mut [u32]) -> Read
     requires { ⌜ count ≤ length (now words) ⌝ }
@@ -169,11 +154,7 @@ fn read_words(bytes: &[u8], start: usize, count: u32, words: &mut [u32]) -> Read
                 place: end,
             }
         }
-        Parsed::Refused(refusal, place) => Read {
-            count: 0,
-            refusal,
-            place,
-        },
+        Parsed::Refused(refusal, place) => refused(refusal, place),
     }
 }
 
@@ -181,12 +162,14 @@ fn read_words(bytes: &[u8], start: usize, count: u32, words: &mut [u32]) -> Read
 pub fn read(bytes: &[u8], words: &mut [u32]) -> Read
     ensures { λ r. ⌜ (r ≡ readAnswer (now (bytes .entry)) (now (words .entry))) × (now (words .exit) ≡ readWords (now (bytes .entry)) (now (words .entry))) ⌝ }
 {
-    match field_at(Field::Count(words.len()), bytes, 0) {
-        Parsed::Accepted(count, start) => read_words(bytes, start, count, words),
-        Parsed::Refused(refusal, place) => Read {
-            count: 0,
-            refusal,
-            place,
-        },
+    match number_at(bytes, 0) {
+        Parsed::Accepted(count, start) => {
+            let own = count_refusal(words.len(), count as usize);
+            if own != 0 {
+                return refused(own, 0);
+            }
+            read_words(bytes, start, count, words)
+        }
+        Parsed::Refused(refusal, place) => refused(refusal, place),
     }
 }

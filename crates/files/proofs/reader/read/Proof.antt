@@ -1,28 +1,48 @@
-use Rattle.files.specs.Reading.{listIn}
-use Rattle.files.proofs.Inverse.{told-as, field-of}
+use mathlib.Core.Path.{sym, _∙_}
+use lib.ListN.{length}
+use Rattle.files.specs.Reading.{countRefusal, listIn}
+use Rattle.files.proofs.Inverse.{told-as, field-passes, field-fails, field-broken}
 use Rattle.files.proofs.Passed.{count-of}
 use borrow.Author.Needs.{needs}
 use Rattle.files.proofs.reader.read.Statement.{statement}
 use Rattle.files.proofs.reader.read.Tie as tie
 
-read-words-requires : tie.Need-read-words-requires
-read-words-requires c κs =
-    let n = c .before .before in
-    count-of _ _ (field-of _ _ _ (told-as (n .before .before .field-at .ensures) (n .count .given .1)) .passes) .1
-
 returns : tie.Need-returns
 unfolding listIn
 returns c =
-    let r = c .before .before in
-    let n = r .before .before .before in
-    let e = told-as (n .before .before .field-at .ensures) (n .count .given .1) in
-    (rw e (r .read-words .ensures .0), rw e (r .read-words .ensures .1))
+    let i = c .before in
+    let q = i .before in
+    let v = q .before .before in
+    let n = v .before .before in
+    let own = countRefusal (length (n .before .before .before .args .words .now)) in
+    let e = field-fails own _ _ (told-as (n .number-at .ensures) (v .count .given .1)) (q .count-refusal .ensures) (i .if1 .taken) in
+    (rw e (c .refused .ensures), rw e)
+
+read-words-requires : tie.Need-read-words-requires
+read-words-requires c κs =
+    let i = c .before in
+    count-of _ _ (sym (i .before .count-refusal .ensures) ∙ i .if1 .left) .1
 
 returns-2 : tie.Need-returns-2
 unfolding listIn
 returns-2 c =
-    let e = told-as (c .before .before .before .field-at .ensures) (c .before .refusal .given .1) in
-    (rw e, rw e)
+    let r = c .before .before in
+    let i = r .before .before in
+    let q = i .before in
+    let v = q .before .before in
+    let n = v .before .before in
+    let own = countRefusal (length (n .before .before .before .args .words .now)) in
+    let e = field-passes own _ _ (told-as (n .number-at .ensures) (v .count .given .1)) (q .count-refusal .ensures) (i .if1 .left) in
+    (rw e (r .read-words .ensures .0), rw e (r .read-words .ensures .1))
+
+returns-3 : tie.Need-returns-3
+unfolding listIn
+returns-3 c =
+    let v = c .before .before in
+    let n = v .before .before in
+    let own = countRefusal (length (n .before .before .before .args .words .now)) in
+    let e = field-broken own _ _ (told-as (n .number-at .ensures) (v .refusal .given .1)) in
+    (rw e (c .refused2 .ensures), rw e)
 
 pub read-spec : {M : Type 1} → statement M
 read-spec =
@@ -30,8 +50,13 @@ read-spec =
     (tie.spec
     (λ c κs. search needs)
     (λ c. search needs)
+    (λ c. search needs)
+    (λ c κs. search needs)
+    (λ c κs. search needs)
+    returns
     read-words-requires
     (λ c. search needs)
+    (λ c κs. search needs)
     (λ c. search needs)
-    returns
-    returns-2)
+    returns-2
+    returns-3)

@@ -24,10 +24,11 @@ returns c =
 
 returns-2 : tie.Need-returns-2
 returns-2 c =
-    let w = c .before .before .before in
+    let v = c .before .before in
+    let w = v .before .before in
     let o = w .before .before .before in
-    let f = failed-of (wordsAt (o .args .count) (o .args .bytes .now) (o .args .start)) (o .args .count) (told-as (w .check-words .ensures) (c .before .refusal .given .1)) in
-    (rw f, rw f)
+    let f = failed-of (wordsAt (o .args .count) (o .args .bytes .now) (o .args .start)) (o .args .count) (told-as (w .check-words .ensures) (v .refusal .given .1)) in
+    (rw f (c .refused .ensures), rw f)
 
 pub read-words-spec : {M : Type 1} → statement M
 read-words-spec =
@@ -37,6 +38,7 @@ read-words-spec =
     (λ c. search needs)
     store-words-requires
     (λ c. search needs)
+    (λ c κs. search needs)
     (λ c. search needs)
     returns
     returns-2)
