@@ -10,10 +10,15 @@ use Rattle.files.specs.declared.number.Parsed as code
 use Rattle.files.specs.SevenBits.{Parsed, accepted, refused, numberAt}
 use Rattle.files.specs.Told.{told}
 use Rattle.files.specs.Reading.{andThen, owned, fieldAt}
+use Rattle.files.specs.Passes.{keptBy}
 
 -- a call's answer that came out as one of its cases: what was to be read is that case
 pub told-as : {x y : code.Parsed} {p : Parsed ℕ} → told x ≡ p → x ≡ y → p ≡ told y
 told-as e q = sym e ∙ ap told q
+
+-- and likewise what was kept besides
+pub kept-as : {x y : code.Parsed} (words : List ℕ) {p : Parsed (List ℕ)} → p ≡ keptBy (told x) words → x ≡ y → p ≡ keptBy (told y) words
+kept-as words e q = e ∙ ap (λ (x : code.Parsed). keptBy (told x) words) q
 
 pub value-of : {A : Type 0} {x y : A} {n m : ℕ} → accepted x n ≡ accepted y m → x ≡ y
 value-of e = cc

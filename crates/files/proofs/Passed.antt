@@ -1,25 +1,45 @@
--- What the first pass's answer says of the file, and that the second pass then stores what the reader's definition says.
-use mathlib.Core.Path.{_≡_, refl, sym, ap, _∙_}
+-- An accepted count, and a row that is stored or copied over a buffer's start.
+use mathlib.Core.Path.{_≡_, refl}
 use mathlib.Core.Bool.{Bool, true, false, cond}
-use mathlib.Core.List.{List, [], _∷_}
-use Prim.Native.Nat.{ℕ, _+_, _≤_}
+use mathlib.Core.List.{List, [], _∷_, _++_}
+use Prim.Native.Nat.{ℕ, suc, _+_, _≤_, _<_}
 use native.Mathlib.Omega.{arith}
 use native.Mathlib.Nat.{zero-add}
+use native.Mathlib.Numerals.{add-one}
 use lib.Dec.{ltb}
-use lib.ListN.{length, drop}
-use lib.Seq.{sets, sets-eq}
+use lib.ListN.{length, getD, set, take, drop}
+use lib.Seq.{sets, sets-eq, paste-suc, length-paste, take-length}
 use borrow.Author.Tests.{ltb-false}
 use Rattle.words.specs.Check.{firstOf}
-use Rattle.files.specs.declared.Read.{Read}
-use Rattle.files.specs.SevenBits.{Parsed, accepted, refused}
-use Rattle.files.specs.Reading.{wordsAt, countRefusal, answered, stored, over}
-use Rattle.files.specs.Passes.{counted, isAccepted, laidWords}
-use Rattle.files.proofs.Inverse.{not-accepted, next-of}
-use Rattle.files.proofs.Words.{as-many}
+use Rattle.files.specs.Reading.{countRefusal, over}
 
 -- a row stored from the start of a buffer with room for it stands over the buffer
 pub sets-over : {A : Type 0} (row buffer : List A) → length row ≤ length buffer → sets buffer 0 row ≡ over row buffer
 sets-over row buffer h = rw (sets-eq row buffer 0 (omega arith), zero-add)
+
+-- a copy of a row over a buffer's start, with i of its elements copied
+pub record Copying (row buffer words : List ℕ) (i : ℕ) : Type 0 where
+  pub within : i ≤ length row
+  pub room : length row ≤ length buffer
+  pub is : words ≡ take i row ++ drop i buffer
+
+module _ (row buffer : List ℕ) where
+  pub copying-none : length row ≤ length buffer → Copying row buffer buffer 0
+  copying-none h = record { within = omega arith; room = h; is = refl }
+
+  module _ {words : List ℕ} {i : ℕ} (c : Copying row buffer words i) where
+    pub copying-same : length words ≡ length buffer
+    copying-same = rw (c .is) (rw (zero-add i) at (length-paste buffer 0 row i (omega arith) (c .within)))
+
+    pub copying-more : i < length row → Copying row buffer (set words i (getD row i 0)) (i + 1)
+    copying-more h = record {
+      within = omega arith;
+      room = c .room;
+      is = rw (c .is, add-one i) (rw (zero-add i, zero-add (suc i)) at (paste-suc buffer 0 row i 0 (omega arith) h));
+    }
+
+    pub copying-all : length row ≤ i → words ≡ over row buffer
+    copying-all h = let n : i ≡ length row = omega arith in rw (c .is, n, take-length row)
 
 -- an accepted count is within the list's limit, and the buffer has room for it
 pub count-of : (room count : ℕ) → countRefusal room count ≡ 0 → (count ≤ 4096) × (count ≤ room)
@@ -29,29 +49,3 @@ count-of room count e = go (ltb 4096 count) (ltb room count) refl refl e
     go true t p q e = let z : _≡_ {A = ℕ} 0 1 = cc in absurd (omega arith)
     go false true p q e = let z : _≡_ {A = ℕ} 0 11 = cc in absurd (omega arith)
     go false false p q e = (ltb-false 4096 count p, ltb-false room count q)
-
-pub record Passed (bytes : List ℕ) (start count end : ℕ) : Type 0 where
-  pub words : List ℕ
-  pub is : wordsAt count bytes start ≡ accepted words end
-
-pub passed-of : (bytes : List ℕ) (start count : ℕ) {value end : ℕ} → counted count (wordsAt count bytes start) ≡ accepted value end
-    → Passed bytes start count end
-passed-of bytes start count {value} {end} e = go (wordsAt count bytes start) refl e
-  where
-    go : (p : Parsed (List ℕ)) → wordsAt count bytes start ≡ p → counted count p ≡ accepted value end → Passed bytes start count end
-    go (accepted words last) q e = record { words = words; is = q ∙ ap (accepted words) (next-of e) }
-    go (refused refusal place) q e = not-accepted e
-
-pub failed-of : (p : Parsed (List ℕ)) (count : ℕ) {refusal place : ℕ} → counted count p ≡ refused refusal place → p ≡ refused refusal place
-failed-of (accepted words end) count e = not-accepted (sym e)
-failed-of (refused r q) count e = cc
-
-module _ {bytes : List ℕ} {start count end : ℕ} (p : Passed bytes start count end) where
-  pub passed-good : isAccepted (wordsAt count bytes start) ≡ true
-  passed-good = rw (p .is)
-
-  pub passed-answer : record { count = count; refusal = 0; place = end } ≡ answered (wordsAt count bytes start)
-  passed-answer = rw (p .is, as-many count bytes start (p .is))
-
-  pub passed-stored : (buffer : List ℕ) → count ≤ length buffer → laidWords buffer 0 (wordsAt count bytes start) ≡ stored (wordsAt count bytes start) buffer
-  passed-stored buffer h = rw (p .is) (sets-over (p .words) buffer (omega (arith, as-many count bytes start (p .is))))

@@ -1,17 +1,17 @@
--- Reading one word more: what the two passes make of it.
+-- Reading one word more: what the reader's pass makes of it.
 use mathlib.Core.Path.{_≡_, refl, sym, ap, _∙_}
 use mathlib.Core.Bool.{Bool, true, false, cond}
-use mathlib.Core.List.{List, [], _∷_}
+use mathlib.Core.List.{List, [], _∷_, _++_, append-assoc, append-nil}
 use Prim.Native.Nat.{ℕ, zero, suc, _+_, _-_, _≤_, _<_}
 use native.Mathlib.Nat.{not-suc-le-zero}
 use native.Mathlib.Numerals.{add-one}
 use native.Mathlib.Omega.{arith}
 use lib.Dec.{ltb}
-use lib.ListN.{length, set, length-set}
+use lib.ListN.{length, take, set, length-set}
+use lib.Seq.{take-suc-set}
 use borrow.Author.Tests.{ltb-false, lt-ltb, le-ltb}
 use Rattle.files.specs.SevenBits.{Parsed, accepted, refused}
 use Rattle.files.specs.Reading.{andThen, wordAt, wordsAt}
-use Rattle.files.specs.Passes.{counted, isAccepted, laidWords}
 use Rattle.files.proofs.Inverse.{not-accepted, value-of, next-of, then-of}
 
 -- a word in front of a reading of words
@@ -34,68 +34,55 @@ module _ (bytes : List ℕ) (at : ℕ) where
   pub end-exact : length bytes ≤ at → wordsAt 0 bytes at ≡ accepted [] (length bytes)
   end-exact h = rw (le-ltb at (length bytes) h)
 
--- the first pass goes on to the next word
-pub counted-more : (count : ℕ) (bytes : List ℕ) (at n : ℕ) {word next : ℕ} → 0 < n → wordAt bytes at ≡ accepted word next
-    → counted count (wordsAt n bytes at) ≡ counted count (wordsAt (n - 1) bytes next)
-counted-more count bytes at n {word} {next} p e = rw (words-more bytes at n p e) (go (wordsAt (n - 1) bytes next))
-  where
-    go : (rest : Parsed (List ℕ)) → counted count (consed word rest) ≡ counted count rest
-    go (accepted words end) = refl
-    go (refused refusal place) = refl
+-- a row of words in front of a reading of words
+abbrev inFront : List ℕ → Parsed (List ℕ) → Parsed (List ℕ)
+inFront row rest = andThen rest (λ words end. accepted (row ++ words) end)
 
--- the second pass, with i of the words stored
-pub record Storing (bytes : List ℕ) (start count : ℕ) (buffer words : List ℕ) (at i : ℕ) : Type 0 where
+-- the reader's pass, with i of the words kept
+pub record Keeping (bytes : List ℕ) (start count : ℕ) (kept₀ kept : List ℕ) (at i : ℕ) : Type 0 where
   pub within : i ≤ count
-  pub same : length words ≡ length buffer
-  pub good : isAccepted (wordsAt (count - i) bytes at) ≡ true
-  pub stored : laidWords buffer 0 (wordsAt count bytes start) ≡ laidWords words i (wordsAt (count - i) bytes at)
+  pub room : count ≤ length kept₀
+  pub same : length kept ≡ length kept₀
+  pub read : wordsAt count bytes start ≡ inFront (take i kept) (wordsAt (count - i) bytes at)
 
-refused-not {ℓ} : {X : Type ℓ} {p : Parsed (List ℕ)} {refusal place : ℕ} → isAccepted p ≡ true → p ≡ refused refusal place → X
-refused-not a e = let z : _≡_ {A = ℕ} 0 1 = clash (rw e at a) in absurd (omega arith)
-  where
-    clash : false ≡ true → _≡_ {A = ℕ} 0 1
-    clash b = cc
-
-module _ (bytes : List ℕ) (start count : ℕ) (buffer : List ℕ) where
-  pub storing-none : isAccepted (wordsAt count bytes start) ≡ true → Storing bytes start count buffer buffer start 0
-  storing-none a =
+module _ (bytes : List ℕ) (start count : ℕ) (kept₀ : List ℕ) where
+  pub keeping-none : count ≤ length kept₀ → Keeping bytes start count kept₀ kept₀ start 0
+  keeping-none h =
       let z : count - 0 ≡ count = omega arith in
-      record { within = omega arith; same = refl; good = rw z a; stored = rw z }
+      record { within = omega arith; room = h; same = refl; read = rw z (go (wordsAt count bytes start)) }
+    where
+      go : (p : Parsed (List ℕ)) → p ≡ inFront [] p
+      go (accepted words end) = refl
+      go (refused refusal place) = refl
 
-  module _ {words : List ℕ} {at i : ℕ} (s : Storing bytes start count buffer words at i) where
-    pub storing-more : {word next : ℕ} → i < count → wordAt bytes at ≡ accepted word next
-        → Storing bytes start count buffer (set words i word) next (i + 1)
-    storing-more {word} {next} h e =
+  module _ {kept : List ℕ} {at i : ℕ} (s : Keeping bytes start count kept₀ kept at i) where
+    pub keeping-more : {word next : ℕ} → i < count → wordAt bytes at ≡ accepted word next
+        → Keeping bytes start count kept₀ (set kept i word) next (i + 1)
+    keeping-more {word} {next} h e =
         let z : count - i - 1 ≡ count - (i + 1) = omega arith in
         let m = words-more bytes at (count - i) (omega arith) e in
-        let g : isAccepted (wordsAt (count - (i + 1)) bytes next) ≡ true =
-        rw z at (sym (accepted-consed (wordsAt (count - i - 1) bytes next)) ∙ rw m at (s .good)) in
         record {
           within = omega arith;
+          room = s .room;
           same = simp length-set (s .same);
-          good = g;
-          stored = s .stored ∙ rw (m, z) (laid-consed (wordsAt (count - (i + 1)) bytes next) g);
+          read = s .read ∙ rw (m, z, add-one i, take-suc-set kept i word (omega arith)) (go (wordsAt (count - suc i) bytes next));
         }
       where
-        accepted-consed : (p : Parsed (List ℕ)) → isAccepted (consed word p) ≡ isAccepted p
-        accepted-consed (accepted ws end) = refl
-        accepted-consed (refused refusal place) = refl
+        go : (p : Parsed (List ℕ)) → inFront (take i kept) (consed word p) ≡ inFront (take i kept ++ (word ∷ [])) p
+        go (accepted words end) = rw (append-assoc (take i kept) (word ∷ []) words)
+        go (refused refusal place) = refl
 
-        laid-consed : (p : Parsed (List ℕ)) → isAccepted p ≡ true → laidWords words i (consed word p) ≡ laidWords (set words i word) (i + 1) p
-        laid-consed (accepted ws end) a = rw (add-one i)
-        laid-consed (refused refusal place) a = refused-not {refusal = refusal} {place = place} a refl
+    pub keeping-stops : {refusal place : ℕ} → i < count → wordAt bytes at ≡ refused refusal place → wordsAt count bytes start ≡ refused refusal place
+    keeping-stops h e = s .read ∙ rw (words-stop bytes at (count - i) (omega arith) e)
 
-    pub storing-stops {ℓ} : {X : Type ℓ} {refusal place : ℕ} → i < count → wordAt bytes at ≡ refused refusal place → X
-    storing-stops h e = refused-not (s .good) (words-stop bytes at (count - i) (omega arith) e)
+    pub keeping-left : count ≤ i → at < length bytes → wordsAt count bytes start ≡ refused 10 at
+    keeping-left h l = let z : count - i ≡ 0 = omega arith in s .read ∙ rw (z, end-left bytes at l)
 
-    pub storing-all : count ≤ i → words ≡ laidWords buffer 0 (wordsAt count bytes start)
-    storing-all h =
+    pub keeping-all : count ≤ i → length bytes ≤ at → wordsAt count bytes start ≡ accepted (take count kept) (length bytes)
+    keeping-all h l =
         let z : count - i ≡ 0 = omega arith in
-        sym (s .stored ∙ rw z (last (ltb at (length bytes))))
-      where
-        last : (b : Bool) → laidWords words i (cond b (refused 10 at) (accepted [] (length bytes))) ≡ words
-        last true = refl
-        last false = refl
+        let n : i ≡ count = omega arith in
+        s .read ∙ rw (z, n, end-exact bytes at l, append-nil (take count kept))
 
 -- the end of an accepted file
 pub record Ended (bytes : List ℕ) (at : ℕ) (words : List ℕ) (end : ℕ) : Type 0 where

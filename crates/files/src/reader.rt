@@ -1,4 +1,4 @@
-// The reader: one pass checks the whole file, one stores its words.
+// The reader, in one pass over the file.
 use crate::Read;
 use crate::number::Parsed;
 use crate::number::number_at;
@@ -6,14 +6,13 @@ use words::CELL_LIMIT;
 use words::LIST_LIMIT;
 use words::refusal;
 ghost use mathlib.Core.Path.{_≡_};
-ghost use mathlib.Core.Bool.{true};
 ghost use Prim.Native.Nat.{_≤_, _<_};
-ghost use lib.ListN.{length};
+ghost use lib.ListN.{length, take};
 ghost use Rattle.words.specs.Instructions.{wordOf};
 ghost use Rattle.words.specs.Check.{operationRefusal, registerRefusal};
 ghost use Rattle.files.specs.Told.{told};
-ghost use Rattle.files.specs.Reading.{operandAt, r1At, wordAt, wordsAt, countRefusal, answered, stored, readAnswer, readWords};
-ghost use Rattle.files.specs.Passes.{counted, isAccepted, laidWords};
+ghost use Rattle.files.specs.Reading.{operandAt, r1At, wordAt, wordsAt, countRefusal, answered, over, stored, readAnswer, readWords};
+ghost use Rattle.files.specs.Passes.{keptBy};
 
 // After the count 1, then 11 if the word buffer is short.
 fn count_refusal(room: usize, count: usize) -> u32
@@ -86,22 +85,24 @@ fn word_at(bytes: &[u8], at: usize) -> Parsed
     }
 }
 
-// The first pass: so many words from a place on, to the file's end. Nothing is kept.
-fn check_words(bytes: &[u8], start: usize, count: u32) -> Parsed
-    ensures { λ r. ⌜ told r ≡ counted count (wordsAt count (now (bytes .entry)) start) ⌝ }
+// So many words from a place on, to the file's end; the row lent keeps them.
+fn keep_words(bytes: &[u8], start: usize, count: u32, kept: &mut [u32]) -> Parsed
+    requires { ⌜ count ≤ length (now kept) ⌝ }
+    ensures { λ r. ⌜ wordsAt count (now (bytes .entry)) start ≡ keptBy (told r) (take count (now (kept .exit))) ⌝ }
 {
     let mut at = start;
-    let mut left = count;
-    while 0 < left {
+    let mut i = 0;
+    while i < count as usize {
         match word_at(bytes, at) {
-            Parsed::Accepted(_, next) => {
+            Parsed::Accepted(word, next) => {
+                kept[i] = word;
                 at = next;
             }
             Parsed::Refused(refusal, place) => {
                 return Parsed::Refused(refusal, place);
             }
         }
-        left -= 1;
+        i += 1;
     }
     if at < bytes.len() {
         return Parsed::Refused(refusal::LEFT, at);
@@ -109,24 +110,14 @@ fn check_words(bytes: &[u8], start: usize, count: u32) -> Parsed
     Parsed::Accepted(count, bytes.len())
 }
 
-// The second pass: stores the words of a file that the first accepted.
-fn store_words(bytes: &[u8], start: usize, count: u32, words: &mut [u32])
-    requires { ⌜ (isAccepted (wordsAt count (now bytes) start) ≡ true) × (count ≤ length (now words)) ⌝ }
-    ensures { λ _. ⌜ now (words .exit) ≡ laidWords (now (words .entry)) 0 (wordsAt count (now (bytes .entry)) start) ⌝ }
+fn store_words(row: &[u32], words: &mut [u32])
+    requires { ⌜ length (now row) ≤ length (now words) ⌝ }
+    ensures { λ _. ⌜ now (words .exit) ≡ over (now (row .entry)) (now (words .entry)) ⌝ }
 {
-    let mut at = start;
-    let mut i = 0;
-    while i < count as usize {
-        match word_at(bytes, at) {
-            Parsed::Accepted(word, next) => {
-                words[i] = word;
-                at = next;
-            }
-            Parsed::Refused(_, _) => {
-                return;
-            }
-        }
-        i += 1;
+    let mut place = 0;
+    while place < row.len() {
+        words[place] = row[place];
+        place += 1;
     }
 }
 
@@ -140,16 +131,18 @@ fn refused(refusal: u32, place: usize) -> Read
     }
 }
 
-// A file whose count was accepted: nothing is written before the whole file is.
+// A file whose count was accepted. "A refused call .. writes nothing" (01), so the words wait until the whole file is accepted.
 fn read_words(bytes: &[u8], start: usize, count: u32, words: &mut [u32]) -> Read
-    requires { ⌜ count ≤ length (now words) ⌝ }
+    requires { ⌜ (count ≤ 4096) × (count ≤ length (now words)) ⌝ }
     ensures { λ r. ⌜ (r ≡ answered (wordsAt count (now (bytes .entry)) start)) × (now (words .exit) ≡ stored (wordsAt count (now (bytes .entry)) start) (now (words .entry))) ⌝ }
 {
-    match check_words(bytes, start, count) {
+    let mut kept = [0u32; LIST_LIMIT];
+    match keep_words(bytes, start, count, &mut kept) {
         Parsed::Accepted(_, end) => {
-            store_words(bytes, start, count, words);
+            let n = count as usize;
+            store_words(&kept[..n], words);
             Read {
-                count: count as usize,
+                count: n,
                 refusal: refusal::ACCEPTED,
                 place: end,
             }

@@ -21,7 +21,7 @@ returns c =
 read-words-requires : tie.Need-read-words-requires
 read-words-requires c κs =
     let i = c .before in
-    count-of _ _ (sym (i .before .count-refusal .ensures) ∙ i .if1 .left) .1
+    count-of _ _ (sym (i .before .count-refusal .ensures) ∙ i .if1 .left)
 
 returns-2 : tie.Need-returns-2
 unfolding listIn

@@ -1,41 +1,58 @@
-use mathlib.Core.Path.{_∙_}
-use Rattle.files.specs.Reading.{wordsAt}
-use Rattle.files.proofs.Inverse.{told-as}
-use Rattle.files.proofs.Passed.{passed-of, failed-of, passed-good, passed-answer, passed-stored}
+use mathlib.Core.Path.{sym}
+use mathlib.Core.List.{List}
+use Prim.Native.Nat.{ℕ}
+use native.Mathlib.Omega.{arith}
+use lib.ListN.{take}
+use Rattle.files.proofs.Inverse.{kept-as}
+use Rattle.files.proofs.Words.{as-many}
 use borrow.Author.Needs.{needs}
 use Rattle.files.proofs.reader.read_words.Statement.{statement}
 use Rattle.files.proofs.reader.read_words.Tie as tie
 
+-- the words that were kept
+abbrev row : tie.After-keep-words → List ℕ
+row w = take (w .before .before .before .before .args .count) (w .keep-words .last .1 .1 .1 .0)
+
+array-share-prefix-kept : tie.Need-array-share-prefix-kept
+array-share-prefix-kept c =
+    let w = c .before .before .before .before in
+    omega (arith, w .keep-words .kept .1 .1 .1 .0, w .before .before .before .before .pre .0)
+
+slice-aggregate-store-words : tie.Need-slice-aggregate-store-words
+slice-aggregate-store-words c =
+    let e = c .before .before in
+    let w = e .before .before .before in
+    sym (as-many _ _ _ (kept-as (row w) (w .keep-words .ensures) (e .end .given .1)))
+
 store-words-requires : tie.Need-store-words-requires
 store-words-requires c κs =
-    let e = c .before .before in
-    let w = e .before .before in
-    let o = w .before .before .before in
-    (passed-good (passed-of (o .args .bytes .now) (o .args .start) (o .args .count) (told-as (w .check-words .ensures) (e .end .given .1))), o .pre)
+    let w = c .before .before .before .before .before .before in
+    omega (arith, slice-aggregate-store-words (c .before), w .before .before .before .before .pre .1)
 
 returns : tie.Need-returns
 returns c =
     let s = c .before .before in
-    let e = s .before .before .before in
-    let w = e .before .before in
-    let o = w .before .before .before in
-    let p = passed-of (o .args .bytes .now) (o .args .start) (o .args .count) (told-as (w .check-words .ensures) (e .end .given .1)) in
-    (passed-answer p, s .store-words .ensures ∙ passed-stored p _ (o .pre))
+    let v = s .before .before .before .before in
+    let w = v .before .before .before in
+    let e = kept-as (row w) (w .keep-words .ensures) (v .end .given .1) in
+    (rw (e, as-many _ _ _ e), rw e (s .store-words .ensures))
 
 returns-2 : tie.Need-returns-2
 returns-2 c =
     let v = c .before .before in
-    let w = v .before .before in
-    let o = w .before .before .before in
-    let f = failed-of (wordsAt (o .args .count) (o .args .bytes .now) (o .args .start)) (o .args .count) (told-as (w .check-words .ensures) (v .refusal .given .1)) in
-    (rw f (c .refused .ensures), rw f)
+    let w = v .before .before .before in
+    let e = kept-as (row w) (w .keep-words .ensures) (v .refusal .given .1) in
+    (rw e (c .refused .ensures), rw e)
 
 pub read-words-spec : {M : Type 1} → statement M
 read-words-spec =
     tie.close
     (tie.spec
+    (λ c. search needs)
     (λ c κs. search needs)
     (λ c. search needs)
+    array-share-prefix-kept
+    slice-aggregate-store-words
     store-words-requires
     (λ c. search needs)
     (λ c κs. search needs)

@@ -1,47 +1,34 @@
-use mathlib.Core.Path.{_≡_, refl, sym, ap, _∙_}
-use mathlib.Core.Bool.{true}
-use mathlib.Core.List.{List}
-use Prim.Native.Nat.{ℕ, _-_, _≤_}
+use Prim.Native.Nat.{_-_}
 use native.Mathlib.Omega.{arith}
-use borrow.Author.Needs.{needs}
 use lib.ListN.{length}
-use Rattle.files.specs.Reading.{wordsAt}
-use Rattle.files.specs.Passes.{isAccepted, laidWords}
-use Rattle.files.proofs.Inverse.{told-as}
-use Rattle.files.proofs.Words.{Storing, storing-none, storing-more, storing-stops, storing-all}
+use Rattle.files.proofs.Passed.{Copying, copying-none, copying-same, copying-more, copying-all}
+use borrow.Author.Needs.{needs}
 use Rattle.files.proofs.reader.store_words.Statement.{statement}
 use Rattle.files.proofs.reader.store_words.Tie as tie
 
 abbrev Inv-loop : tie.InvT-loop
-Inv-loop bytes start count words₀ at₀ i₀ words at i = Storing bytes start count words₀ words at i
+Inv-loop row words₀ place₀ words place = Copying row words₀ words place
 
 abbrev μ-loop : tie.MeasureT-loop
-μ-loop bytes start count words₀ at₀ i₀ words at i = count - i
+μ-loop row words₀ place₀ words place = length row - place
 
 loop-holds : tie.Need-loop-holds Inv-loop μ-loop
-loop-holds c = storing-none _ _ _ _ (c .before .before .pre .0)
+loop-holds c = copying-none _ _ (c .pre)
 
-enum-told : tie.Need-enum-told Inv-loop μ-loop
-enum-told c = search needs
-
-same-length : tie.Need-same-length Inv-loop μ-loop
-same-length c = c .before .before .before .before .loop .inv .same
-
-returns : tie.Need-returns Inv-loop μ-loop
-returns c =
-    let w = c .before .before in
-    storing-stops _ _ _ _ (w .before .before .loop .inv) (w .before .loop-test .taken) (told-as (w .word-at .ensures) (c .enum-told .given .1))
+slice-write-words : tie.Need-slice-write-words Inv-loop μ-loop
+slice-write-words c =
+    let t = c .before in
+    let k = t .before .loop .inv in
+    omega (arith, copying-same _ _ k, k .room, t .loop-test .taken)
 
 loop-again : tie.Need-loop-again Inv-loop μ-loop
-loop-again c =
-    let w = c .before .before .before in
-    storing-more _ _ _ _ (w .before .before .loop .inv) (w .before .loop-test .taken) (told-as (w .word-at .ensures) (c .before .word .given .1))
+loop-again c = copying-more _ _ (c .before .before .loop .inv) (c .before .loop-test .taken)
 
-same-length-2 : tie.Need-same-length-2 Inv-loop μ-loop
-same-length-2 c = c .before .loop .inv .same
+same-length : tie.Need-same-length Inv-loop μ-loop
+same-length c = copying-same _ _ (c .before .loop .inv)
 
-returns-2 : tie.Need-returns-2 Inv-loop μ-loop
-returns-2 c = storing-all _ _ _ _ (c .before .loop .inv) (c .loop-test .left)
+returns : tie.Need-returns Inv-loop μ-loop
+returns c = copying-all _ _ (c .before .loop .inv) (c .loop-test .left)
 
 pub store-words-spec : {M : Type 1} → statement M
 store-words-spec =
@@ -50,15 +37,12 @@ store-words-spec =
     Inv-loop
     μ-loop
     loop-holds
-    (λ c κs. search needs)
     (λ c. search needs)
     (λ c. search needs)
     (λ c. search needs)
-    enum-told
-    same-length
-    returns
+    slice-write-words
     (λ c. search needs)
     (λ c. search needs)
     loop-again
-    same-length-2
-    returns-2)
+    same-length
+    returns)
