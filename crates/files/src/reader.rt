@@ -8,7 +8,7 @@ use words::refusal;
 ghost use mathlib.Core.Path.{_≡_};
 ghost use Prim.Native.Nat.{_≤_, _<_};
 ghost use lib.ListN.{length, take};
-ghost use Rattle.words.specs.Instructions.{wordOf};
+ghost use Rattle.words.specs.Instructions.{wordOf, listLimit};
 ghost use Rattle.words.specs.Check.{operationRefusal, registerRefusal};
 ghost use Rattle.files.specs.Told.{told};
 ghost use Rattle.files.specs.Reading.{operandAt, r1At, wordAt, wordsAt, countRefusal, answered, over, stored, readAnswer, readWords};
@@ -133,7 +133,7 @@ fn refused(refusal: u32, place: usize) -> Read
 
 // A file whose count was accepted. "A refused call .. writes nothing" (01), so the words wait until the whole file is accepted.
 fn read_words(bytes: &[u8], start: usize, count: u32, words: &mut [u32]) -> Read
-    requires { ⌜ (count ≤ 4096) × (count ≤ length (now words)) ⌝ }
+    requires { ⌜ (count ≤ listLimit) × (count ≤ length (now words)) ⌝ }
     ensures { λ r. ⌜ (r ≡ answered (wordsAt count (now (bytes .entry)) start)) × (now (words .exit) ≡ stored (wordsAt count (now (bytes .entry)) start) (now (words .entry))) ⌝ }
 {
     let mut kept = [0u32; LIST_LIMIT];
