@@ -20,7 +20,7 @@ use Rattle.held.specs.declared.parts.Record.{Record}
 use Rattle.held.specs.View.{view, viewRecord, lent}
 use Rattle.machine.specs.declared.advance.Progress.{Progress}
 use Rattle.machine.specs.declared.advance.Stop.{Stop}
-use Rattle.machine.specs.Taking.{Taken}
+use Rattle.taking.specs.Taking.{Taken}
 use Rattle.machine.specs.Advance.{beginning, blank, stays, stopped, takenOn, goes, advanced, cellsAfter}
 use Rattle.files.proofs.Laid.{sets-append}
 use Rattle.lent.specs.Ran.{Final, pick, runs, left, ran}

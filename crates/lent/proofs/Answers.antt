@@ -28,7 +28,7 @@ use Rattle.held.specs.Back.{recordOf}
 use Rattle.held.proofs.Exact.{forth}
 use Rattle.machine.specs.declared.advance.Progress.{Progress}
 use Rattle.machine.specs.declared.advance.Stop.{Stop}
-use Rattle.machine.specs.Taking.{Taken, takeFrom}
+use Rattle.taking.specs.Taking.{Taken, takeFrom}
 use Rattle.machine.specs.Advance.{beginning, stays, stopped, takenOn, goes, advanced, cellsAfter}
 use Rattle.machine.proofs.Segments.{stateAt, onFrom, SegmentBy, segment}
 use Rattle.lent.specs.Ran.{Final, pick, runs, ran}

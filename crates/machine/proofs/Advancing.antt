@@ -28,10 +28,10 @@ use Rattle.held.specs.Back.{machineOf}
 use Rattle.held.proofs.Exact.{back}
 use Rattle.machine.specs.declared.advance.Progress.{Progress}
 use Rattle.machine.specs.declared.advance.Stop.{Stop}
-use Rattle.machine.specs.declared.taking.Taken as declared
-use Rattle.machine.specs.Inside.{lentTo}
-use Rattle.machine.specs.Taking as taking
-use Rattle.machine.specs.Taking.{Taken, viewTaken, byNumber, byRelease, afterStep, takeFrom}
+use Rattle.taking.specs.declared.taking.Taken as declared
+use Rattle.taking.specs.Inside.{lentTo}
+use Rattle.taking.specs.Taking as taking
+use Rattle.taking.specs.Taking.{Taken, viewTaken, byNumber, byRelease, afterStep, takeFrom}
 use Rattle.machine.specs.Advance.{beginning, stays, stopped, takenOn, goes, advanced, cellsAfter}
 
 module _ (m : Machine) (words : List ℕ) (operands : List Float) (results : ℕ) {v : Verdict} (e : v ≡ listCheck (length operands) results words) where

@@ -1,6 +1,5 @@
 -- The contract of each public function determines its answer and what is lent to it.
 use mathlib.Core.Path.{_≡_, refl, sym, ap, _∙_}
-use mathlib.Core.Option.{Option·some-injective}
 use mathlib.Core.List.{List}
 use lib.Ieee.{Float}
 use denote.Ref.{now}
@@ -9,15 +8,13 @@ use Rattle.order.specs.Entries as order
 use Rattle.machine.specs.declared.lowest.Lowest.{Lowest}
 use Rattle.machine.specs.declared.lowest.Lowest.the-variants.{Nothing as NoCode, Code}
 use Rattle.machine.specs.declared.lowest.LowestStep.{LowestStep}
-use Rattle.held.specs.declared.parts.Released.{Released}
-use Rattle.held.specs.declared.parts.Released.the-variants.{Nothing, One}
 use Rattle.held.specs.declared.parts.Stepped.{Stepped}
-use Rattle.held.specs.View.{view, viewRecord, viewReleased, viewStepped}
+use Rattle.held.specs.View.{viewReleased, viewStepped}
 use Rattle.machine.specs.Lowest.{viewLowest, viewLowestStep}
-use Rattle.order.specs.Machine.{Released as ReleasedOf}
 use Rattle.order.specs.Issue.{Answer}
 use Rattle.order.specs.Asked.{written}
 use Rattle.held.proofs.Exact.{view-exact}
+use Rattle.taking.proofs.Determined.{released-exact}
 use Rattle.machine.proofs.lowest.lowest_step.Kinds as lowest-step-kinds
 use Rattle.machine.proofs.lowest.lowest_step.Reads as lowest-step-reads
 use Rattle.machine.proofs.step.step.Kinds as step-kinds
@@ -26,13 +23,6 @@ use Rattle.machine.proofs.advance.begun.Kinds as begun-kinds
 use Rattle.machine.proofs.advance.begun.Reads as begun-reads
 use Rattle.machine.proofs.advance.advance.Kinds as advance-kinds
 use Rattle.machine.proofs.advance.advance.Reads as advance-reads
-
-released-exact : (x y : Released) → viewReleased x ≡ viewReleased y → x ≡ y
-released-exact Nothing Nothing e = refl
-released-exact Nothing (One y) e = cc
-released-exact (One x) Nothing e = cc
-released-exact (One x) (One y) e =
-    ap One (ap (λ (r : ReleasedOf Float). record { place = r .place; cell = r .cell; number = r .number }) (Option·some-injective (viewRecord x) (viewRecord y) e))
 
 code-exact : (x y : Lowest) → viewLowest x ≡ viewLowest y → x ≡ y
 code-exact NoCode NoCode e = refl

@@ -1,13 +1,7 @@
 pub mod Advancing
-pub mod Arms
 pub mod Bridge
-pub mod Changing
 pub mod Determined
 pub mod First
-pub mod Forwards
-pub mod Found
-pub mod Issued
 pub mod Moving
 pub mod Segments
 pub mod Stepping
-pub mod Takes

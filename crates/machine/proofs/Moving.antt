@@ -17,11 +17,11 @@ use Rattle.order.specs.Steps.{perform}
 use Rattle.order.proofs.Rows.{cond-cases}
 use Rattle.machine.specs.declared.advance.Progress.{Progress}
 use Rattle.machine.specs.declared.advance.Stop.{Stop}
-use Rattle.machine.specs.Inside.{lentTo}
-use Rattle.machine.specs.Taking.{Taken, stopped, byNumber, byRelease, afterStep, takeFrom}
+use Rattle.taking.specs.Inside.{lentTo}
+use Rattle.taking.specs.Taking.{Taken, stopped, byNumber, byRelease, afterStep, takeFrom}
 use Rattle.machine.specs.Advance as advance
 use Rattle.machine.specs.Advance.{takenOn, goes, advanced}
-use Rattle.machine.proofs.Forwards.{moves-on}
+use Rattle.taking.proofs.Forwards.{moves-on}
 
 module _ (schedule : List ℕ) where
   -- if anything was released: by a code at a place of the schedule, and now beyond it

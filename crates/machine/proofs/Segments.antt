@@ -18,8 +18,8 @@ use Rattle.order.specs.Steps.{perform, inOrder}
 use Rattle.order.specs.Asked.{State, written}
 use Rattle.order.proofs.Theorems.{goodOrderKept, stepIsPerform}
 use Rattle.runs.specs.Run.{Ran, byTurn, turn, turnOf, runFrom}
-use Rattle.machine.specs.Taking.{Taken, stopped, byNumber, afterStep, takeFrom}
-use Rattle.machine.proofs.Forwards.{moves-on}
+use Rattle.taking.specs.Taking.{Taken, stopped, byNumber, afterStep, takeFrom}
+use Rattle.taking.proofs.Forwards.{moves-on}
 
 -- one test, two choices by it
 both-cases : {A B : Type 0} (Q : A → B → Type 0) (b : Bool) {x y : A} {u v : B} → (b ≡ true → Q x u) → (b ≡ false → Q y v) → Q (cond b x y) (cond b u v)

@@ -14,8 +14,8 @@ use Rattle.order.specs.Machine.{Lent, Released}
 use Rattle.order.proofs.Rows.{above}
 use Rattle.order.proofs.Tags.{firstArrival, lastArrival, firstCompletion, lastCompletion, firstBufferGrant, lastBufferGrant, firstStationGrant, lastStationGrant, firstRelease, lastRelease}
 use Rattle.order.proofs.Moves.{Reply, leaves, does, of-perform}
-use Rattle.machine.specs.Taking.{Taken, viewTaken, afterStep, takeFrom}
-use Rattle.machine.specs.declared.taking.Taken as declared
+use Rattle.taking.specs.Taking.{Taken, viewTaken, afterStep, takeFrom}
+use Rattle.taking.specs.declared.taking.Taken as declared
 use Rattle.order.specs.Issue.{Answer}
 use Rattle.order.specs.Binary64.{binary64}
 use Rattle.order.specs.GoodOrder.{goodOrder}

@@ -18,8 +18,8 @@ use Rattle.held.specs.View.{view}
 use Rattle.held.specs.Back.{machineOf, recordOf}
 use Rattle.machine.specs.declared.advance.Progress.{Progress}
 use Rattle.machine.specs.declared.advance.Stop.{Stop}
-use Rattle.machine.specs.Inside.{lentTo}
-use Rattle.machine.specs.Taking.{Taken, takeFrom}
+use Rattle.taking.specs.Inside.{lentTo}
+use Rattle.taking.specs.Taking.{Taken, takeFrom}
 
 -- "A run checks the list, then 6"
 abbrev pub entryRefusal : Machine → (words : List ℕ) (operands : List Float) (results : ℕ) → ℕ

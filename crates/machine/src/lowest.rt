@@ -1,13 +1,13 @@
 // The lowest permitted step.
-use crate::taking::taking;
 use held::good_order::in_good_order;
 use held::parts::Machine;
+use taking::take_codes;
 use words::refusal;
 ghost use mathlib.Core.Path.{_≡_};
 ghost use Rattle.order.specs.Binary64.{binary64};
 ghost use Rattle.order.specs.Entries.{lowestPermitted, lowestStep};
 ghost use Rattle.held.specs.View.{view, lent};
-ghost use Rattle.machine.specs.Inside.{lentTo};
+ghost use Rattle.taking.specs.Inside.{lentTo};
 ghost use Rattle.machine.specs.Lowest.{viewLowest, viewLowestStep};
 
 // Every known code is below this.
@@ -30,7 +30,7 @@ fn lowest_permitted(m: Machine, words: &[u32], operands: &[f64], results: usize)
     let mut code = 0;
     while code < CODE_LIMIT {
         let schedule: [u8; 1] = [code as u8];
-        let taken = taking(m, words, operands, results, &schedule, 0, 0, true);
+        let taken = take_codes(m, words, operands, results, &schedule, 0, 0, true);
         if taken.refusal == 0 {
             return Lowest::Code(code);
         }

@@ -16,13 +16,13 @@ enum-told : tie.Need-enum-told
 enum-told c = search needs
 
 add-progress : tie.Need-add-progress
-add-progress c = let a = c .before .before .before .before .before .before .before .before .before .before .before .before .before .before .before .before .before .before .args in omega (arith, has-room (a .p) (now (a .words)) (now (a .operands)) (now (a .results)) (now (a .schedule)) (a .room) (not-false _ (c .before .before .before .before .before .before .before .before .before .before .before .before .if1 .left)) (c .before .before .before .before .before .before .before .before .before .before .if2 .left) (c .before .before .before .before .before .before .before .before .taking .result) (c .before .before .before .before .before .before .before .before .taking .ensures) (c .before .before .before .before .before .write-released .ensures) _ (c .before .released .given .1), c .before .before .before .before .before .before .before .before .before .before .before .before .before .before .before .before .before .before .fits .room .fits)
+add-progress c = let a = c .before .before .before .before .before .before .before .before .before .before .before .before .before .before .before .before .before .before .args in omega (arith, has-room (a .p) (now (a .words)) (now (a .operands)) (now (a .results)) (now (a .schedule)) (a .room) (not-false _ (c .before .before .before .before .before .before .before .before .before .before .before .before .if1 .left)) (c .before .before .before .before .before .before .before .before .before .before .if2 .left) (c .before .before .before .before .before .before .before .before .take-codes .result) (c .before .before .before .before .before .before .before .before .take-codes .ensures .0 (c .before .before .before .before .before .before .before .before .before .before .if2 .left)) (c .before .before .before .before .before .write-released .ensures) _ (c .before .released .given .1), c .before .before .before .before .before .before .before .before .before .before .before .before .before .before .before .before .before .before .fits .room .fits)
 
 returns-3 : tie.Need-returns-3
-returns-3 c = let a = c .before .before .before .before .before .before .before .before .before .before .before .before .before .before .before .before .before .before .args in no-release (a .p) (now (a .words)) (now (a .operands)) (now (a .results)) (now (a .schedule)) (a .room) (not-false _ (c .before .before .before .before .before .before .before .before .before .before .before .before .if1 .left)) (c .before .before .before .before .before .before .before .before .before .before .if2 .left) (c .before .before .before .before .before .before .before .before .taking .result) (c .before .before .before .before .before .before .before .before .taking .ensures) (c .before .before .before .before .before .write-released .ensures) (c .before .enum-told .given .1) (c .stays3 .ensures)
+returns-3 c = let a = c .before .before .before .before .before .before .before .before .before .before .before .before .before .before .before .before .before .before .args in no-release (a .p) (now (a .words)) (now (a .operands)) (now (a .results)) (now (a .schedule)) (a .room) (not-false _ (c .before .before .before .before .before .before .before .before .before .before .before .before .if1 .left)) (c .before .before .before .before .before .before .before .before .before .before .if2 .left) (c .before .before .before .before .before .before .before .before .take-codes .result) (c .before .before .before .before .before .before .before .before .take-codes .ensures .0 (c .before .before .before .before .before .before .before .before .before .before .if2 .left)) (c .before .before .before .before .before .write-released .ensures) (c .before .enum-told .given .1) (c .stays3 .ensures)
 
 returns-4 : tie.Need-returns-4
-returns-4 c = let a = c .before .before .before .before .before .before .before .before .before .before .before .before .before .before .before .before .before .before .args in release (a .p) (now (a .words)) (now (a .operands)) (now (a .results)) (now (a .schedule)) (a .room) (not-false _ (c .before .before .before .before .before .before .before .before .before .before .before .before .if1 .left)) (c .before .before .before .before .before .before .before .before .before .before .if2 .left) (c .before .before .before .before .before .before .before .before .taking .result) (c .before .before .before .before .before .before .before .before .taking .ensures) (c .before .before .before .before .before .write-released .ensures) _ (c .before .released .given .1)
+returns-4 c = let a = c .before .before .before .before .before .before .before .before .before .before .before .before .before .before .before .before .before .before .args in release (a .p) (now (a .words)) (now (a .operands)) (now (a .results)) (now (a .schedule)) (a .room) (not-false _ (c .before .before .before .before .before .before .before .before .before .before .before .before .if1 .left)) (c .before .before .before .before .before .before .before .before .before .before .if2 .left) (c .before .before .before .before .before .before .before .before .take-codes .result) (c .before .before .before .before .before .before .before .before .take-codes .ensures .0 (c .before .before .before .before .before .before .before .before .before .before .if2 .left)) (c .before .before .before .before .before .write-released .ensures) _ (c .before .released .given .1)
 
 pub advance-spec : {M : Type 1} → statement M
 advance-spec =

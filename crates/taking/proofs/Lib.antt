@@ -1,0 +1,7 @@
+pub mod Arms
+pub mod Changing
+pub mod Determined
+pub mod Forwards
+pub mod Found
+pub mod Issued
+pub mod Takes
