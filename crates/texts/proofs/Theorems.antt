@@ -30,44 +30,62 @@ module _ (name further : List ℕ) (fault : Fault) where
   past : fault ≡ Nothing → orStopped fault name further ≡ further
   past e = rw e
 
+-- four faults in a row, each before what follows it
+module _ (a b c d : Fault) (p q r s further : List ℕ) where
+  abbrev fourth : List ℕ
+  fourth = orStopped d s further
+
+  abbrev third : List ℕ
+  third = orStopped c r fourth
+
+  abbrev second : List ℕ
+  second = orStopped b q third
+
+  abbrev first : List ℕ
+  first = orStopped a p second
+
+  past-two : a ≡ Nothing → b ≡ Nothing → first ≡ third
+  past-two e f = past p second a e ∙ past q third b f
+
+  past-three : a ≡ Nothing → b ≡ Nothing → c ≡ Nothing → first ≡ fourth
+  past-three e f g = past-two e f ∙ past r fourth c g
+
+  at-second : a ≡ Nothing → Stopped q b first
+  at-second e = subst (Stopped q b) (sym (past p second a e)) (stopped q third b)
+
+  at-third : a ≡ Nothing → b ≡ Nothing → Stopped r c first
+  at-third e f = subst (Stopped r c) (sym (past-two e f)) (stopped r fourth c)
+
+  at-fourth : a ≡ Nothing → b ≡ Nothing → c ≡ Nothing → Stopped s d first
+  at-fourth e f g = subst (Stopped s d) (sym (past-three e f g)) (stopped s further d)
+
+  at-last : a ≡ Nothing → b ≡ Nothing → c ≡ Nothing → d ≡ Nothing → first ≡ further
+  at-last e f g h = past-three e f g ∙ past s further d h
+
 module _ (listFile operandsFile scheduleFile : Option (List ℕ)) where
   abbrev L : Lent Float
   L = lentBy (bytesIn listFile) (bytesIn operandsFile)
 
-  abbrev afterAreas : List ℕ
-  afterAreas = ranText L (runOf L (bytesIn scheduleFile))
+  abbrev ranAs : List ℕ
+  ranAs = ranText L (runOf L (bytesIn scheduleFile))
 
-  abbrev afterSchedule : List ℕ
-  afterSchedule = orStopped (areasFault L) word.areas afterAreas
+  abbrev list-fault : Fault
+  list-fault = fileFault listFile listFault
 
-  abbrev afterOperands : List ℕ
-  afterOperands = orStopped (fileFault scheduleFile scheduleFault) word.schedule afterSchedule
+  abbrev operands-fault : Fault
+  operands-fault = fileFault operandsFile operandsFault
 
-  abbrev afterList : List ℕ
-  afterList = orStopped (fileFault operandsFile operandsFault) word.operands afterOperands
+  abbrev schedule-fault : Fault
+  schedule-fault = fileFault scheduleFile scheduleFault
 
-  abbrev text : List ℕ
-  text = reportText listFile operandsFile scheduleFile
-
-  past-list : fileFault listFile listFault ≡ Nothing → text ≡ afterList
-  unfolding reportText
-  past-list e = past word.list afterList (fileFault listFile listFault) e
-
-  past-operands : fileFault listFile listFault ≡ Nothing → fileFault operandsFile operandsFault ≡ Nothing → text ≡ afterOperands
-  past-operands e f = past-list e ∙ past word.operands afterOperands (fileFault operandsFile operandsFault) f
-
-  past-schedule : fileFault listFile listFault ≡ Nothing → fileFault operandsFile operandsFault ≡ Nothing → fileFault scheduleFile scheduleFault ≡ Nothing
-      → text ≡ afterSchedule
-  past-schedule e f g = past-operands e f ∙ past word.schedule afterSchedule (fileFault scheduleFile scheduleFault) g
-
-  first-shown : FirstShown listFile operandsFile scheduleFile text
+  first-shown : FirstShown listFile operandsFile scheduleFile (reportText listFile operandsFile scheduleFile)
   unfolding reportText
   first-shown = record {
-    list = stopped word.list afterList (fileFault listFile listFault);
-    operands = λ e. subst (Stopped word.operands (fileFault operandsFile operandsFault)) (sym (past-list e)) (stopped word.operands afterOperands _);
-    schedule = λ e f. subst (Stopped word.schedule (fileFault scheduleFile scheduleFault)) (sym (past-operands e f)) (stopped word.schedule afterSchedule _);
-    areas = λ e f g. subst (Stopped word.areas (areasFault L)) (sym (past-schedule e f g)) (stopped word.areas afterAreas _);
-    ran = λ e f g h. past-schedule e f g ∙ past word.areas afterAreas (areasFault L) h;
+    list = stopped word.list (second list-fault operands-fault schedule-fault (areasFault L) word.list word.operands word.schedule word.areas ranAs) list-fault;
+    operands = at-second list-fault operands-fault schedule-fault (areasFault L) word.list word.operands word.schedule word.areas ranAs;
+    schedule = at-third list-fault operands-fault schedule-fault (areasFault L) word.list word.operands word.schedule word.areas ranAs;
+    areas = at-fourth list-fault operands-fault schedule-fault (areasFault L) word.list word.operands word.schedule word.areas ranAs;
+    ran = at-last list-fault operands-fault schedule-fault (areasFault L) word.list word.operands word.schedule word.areas ranAs;
   }
 
 -- THEOREMS
