@@ -1,15 +1,17 @@
 -- What each exported entry answers and leaves, in words: the answers of crates files and order, of the machine that the image holds.
 use mathlib.Core.Path.{_≡_}
+use mathlib.Core.Bool.{cond, not}
 use mathlib.Core.Option.{Option, none, some}
 use mathlib.Core.List.{List, [], _∷_, _++_}
 use Prim.Native.Nat.{ℕ, _/_}
+use lib.Dec.{eqb}
 use lib.Ieee.{Float}
 use lib.ListN.{length}
 use lib.Seq.{sets}
 use Rattle.numbers.specs.Number.{patternOf}
 use Rattle.order.specs.Binary64.{binary64}
 use Rattle.order.specs.Machine.{Machine, Released}
-use Rattle.order.specs.Issue.{Answer}
+use Rattle.order.specs.Issue.{Answer, isTaken}
 use Rattle.order.specs.Steps.{step}
 use Rattle.order.specs.Asked.{written}
 use Rattle.order.specs.Entries as order
@@ -45,10 +47,10 @@ lowestWords (some code) = 1 ∷ code ∷ []
 abbrev pub startsIn : List Float → List Float
 startsIn row = numberAt row 0 ∷ numberAt row 1 ∷ numberAt row 2 ∷ numberAt row 3 ∷ []
 
--- ONE STEP: a is its answer on paper; the image, the result cells and the released row before and after
+-- ONE STEP: a is its answer on paper; the image, the result cells and the released row before and after. A refused step leaves the image word for word.
 pub record StepWords (a : Answer Float) (image : List ℕ) (cells : List Float) (released : List ℕ) (number : ℕ) (image′ : List ℕ) (cells′ : List Float) (released′ : List ℕ) : Type 0 where
   pub answered : number ≡ a .refusal
-  pub machine : image′ ≡ imageOver (a .machine) image
+  pub machine : image′ ≡ cond (isTaken a) (imageOver (a .machine) image) image
   pub after : cells′ ≡ written cells (a .released)
   pub told : released′ ≡ sets released 0 (releasedWords (a .released))
 
@@ -58,7 +60,7 @@ stepIn words operands image cells code = step binary64 (lent words operands cell
 -- A RUN: w is the run on paper; the image, the log and the row of answers (steps done, byte place, records written) before and after
 pub record RunWords (w : Ran Float) (image log answer : List ℕ) (number : ℕ) (image′ : List ℕ) (cells′ : List Float) (log′ answer′ : List ℕ) : Type 0 where
   pub answered : number ≡ w .refusal
-  pub machine : image′ ≡ imageOver (w .state .machine) image
+  pub machine : image′ ≡ cond (not (eqb (w .steps) 0)) (imageOver (w .state .machine) image) image
   pub after : cells′ ≡ w .state .cells
   pub logged : log′ ≡ sets log 0 (logWords (w .state .log))
   pub told : answer′ ≡ sets answer 0 (w .steps ∷ w .place ∷ length (w .state .log) ∷ [])

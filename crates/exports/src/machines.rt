@@ -4,9 +4,11 @@ use crate::row::number_at;
 use crate::row::put_number;
 use crate::row::put_words;
 use crate::spelling::put_machine;
+use crate::spelling::put_taken;
 use held::parts::Record;
 use held::parts::Released;
 use machine::lowest::Lowest;
+use words::refusal;
 ghost use mathlib.Core.Path.{_≡_};
 ghost use mathlib.Core.List.{[], _∷_};
 ghost use lib.ListN.{length};
@@ -81,7 +83,7 @@ pub extern "C" fn wethertide_fresh(
     begun.refusal
 }
 
-// Answers the refusal; the row of words takes the machine, the released row whether a record was released, and the record.
+// Answers the refusal; the row of words takes the machine of a step that was taken, the released row whether a record was released, and the record.
 #[no_mangle]
 pub extern "C" fn wethertide_step(
     machine: &mut [u64],
@@ -97,7 +99,7 @@ pub extern "C" fn wethertide_step(
     let stepped = machine::step::step(m, words, operands, results, code);
     let after = stepped.machine;
     let made = stepped.released;
-    put_machine(machine, after);
+    put_taken(machine, after, stepped.refusal == refusal::ACCEPTED);
     let told = released_words(made);
     put_words(released, 0, &told);
     stepped.refusal

@@ -2,7 +2,7 @@
 use crate::image::machine_in;
 use crate::machines::record_words;
 use crate::row::put_words;
-use crate::spelling::put_machine;
+use crate::spelling::put_taken;
 use held::parts::Machine;
 use machine::advance::Progress;
 use machine::advance::Stop;
@@ -51,7 +51,7 @@ fn run_by_value(
     run
 }
 
-// Answers the refusal; the row of words takes the machine, the log the records, and the row of answers steps done, byte place and records.
+// Answers the refusal; the row of words takes the machine where a step was taken, the log the records, and the row of answers steps done, byte place and records.
 #[no_mangle]
 pub extern "C" fn wethertide_run(
     machine: &mut [u64],
@@ -67,7 +67,7 @@ pub extern "C" fn wethertide_run(
     let m = machine_in(machine);
     let run = run_by_value(m, words, operands, results, schedule, log);
     let after = run.machine;
-    put_machine(machine, after);
+    put_taken(machine, after, run.steps != 0);
     let told: [u64; 3] = [run.steps as u64, run.place as u64, run.records as u64];
     put_words(answer, 0, &told);
     run.refusal

@@ -13,6 +13,7 @@ use held::parts::StoreState;
 use numbers::Operation;
 ghost use mathlib.Core.Path.{_≡_};
 ghost use Prim.Native.Nat.{_<_};
+ghost use mathlib.Core.Bool.{cond};
 ghost use mathlib.Core.List.{map};
 ghost use lib.Seq.{sets};
 ghost use Rattle.held.specs.View.{viewOperand, viewRegister, viewBuffer, viewStation, viewStore, view};
@@ -168,4 +169,13 @@ pub(crate) fn put_machine(row: &mut [u64], m: Machine)
     put_buffers(row, buffers);
     put_stations(row, stations);
     put_stores(row, stores);
+}
+
+// A step that was refused leaves the row word for word as found.
+pub(crate) fn put_taken(row: &mut [u64], m: Machine, taken: bool)
+    ensures { λ _. ⌜ now (row .exit) ≡ cond taken (imageOver (view m) (now (row .entry))) (now (row .entry)) ⌝ }
+{
+    if taken {
+        put_machine(row, m);
+    }
 }

@@ -135,7 +135,7 @@ fn steps(
     let mut results = cells();
     let proved = side(works, move |work| proved_steps(work, &mut results, |_| {}));
     let mut results = cells();
-    let carrying_too = side(works, move |work| proved_steps(work, &mut results, refused_at_once));
+    let carrying_too = side(works, move |work| proved_steps(work, &mut results, only_carried));
     let mut results = cells();
     let twin = side(works, move |work| {
         let mut machine = work.machine;
@@ -158,10 +158,11 @@ fn proved_steps(work: &Work, results: &mut [Number], after: impl Fn(&mut [u64]))
 }
 
 /// A step with a list of 4,097 words is refused with 1 before anything is looked at, so that it
-/// only carries the machine.
-fn refused_at_once(machine: &mut [u64]) {
+/// only carries the machine in; a fresh machine for an empty list is only carried out.
+fn only_carried(machine: &mut [u64]) {
     static LONG_LIST: [u32; LIST_LIMIT + 1] = [0; LIST_LIMIT + 1];
     library::step(machine, &LONG_LIST, &[], &mut [], 0, &mut [0; 4]);
+    library::fresh(&[], &[], &[], &[], black_box(&mut [0; WORDS]));
 }
 
 fn alone(works: &Works) -> Task {

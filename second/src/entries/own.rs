@@ -74,7 +74,9 @@ fn step(call: &mut Call) -> u32 {
         }
         None => [0; 4],
     };
-    put(&mut call.machine, &words_of(&machine));
+    if answer.is_ok() {
+        put(&mut call.machine, &words_of(&machine));
+    }
     put(&mut call.answer, &released);
     Refusal::number_of(&answer)
 }
@@ -115,7 +117,9 @@ fn run(call: &mut Call) -> u32 {
     for (words, record) in call.log.chunks_exact_mut(RECORD_WORDS).zip(&log[..answer.records]) {
         words.copy_from_slice(&record_words(record));
     }
-    put(&mut call.machine, &words_of(&machine));
+    if answer.steps > 0 {
+        put(&mut call.machine, &words_of(&machine));
+    }
     put(&mut call.answer, &[answer.steps, answer.place, answer.records].map(|count| count as u64));
     Refusal::number_of(&answer.refusal)
 }
