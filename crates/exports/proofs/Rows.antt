@@ -6,7 +6,7 @@ use native.Mathlib.Nat.{add-zero, zero-add}
 use native.Mathlib.Omega.{arith}
 use lib.ListN.{length, getD, set, drop, length-set, drop-of-length-le}
 use lib.Seq.{sets, drop-cons}
-use Rattle.files.proofs.Peel.{peel-one}
+use Rattle.groups.proofs.Peel.{peel-one}
 
 -- with so many of the words stored
 pub record PutSoFar (words row₀ : List ℕ) (place : ℕ) (row : List ℕ) (i : ℕ) : Type 0 where

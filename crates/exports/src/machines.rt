@@ -115,7 +115,7 @@ pub extern "C" fn wethertide_good_order(
     ensures { λ r. ⌜ r ≡ inOrder binary64 (lent (now (words .entry)) (now (operands .entry)) (now (results .entry))) (machineIn (now (machine .entry))) ⌝ }
 {
     let m = machine_in(machine);
-    held::good_order::good_order(m, words, operands, results)
+    good_order::good_order(m, words, operands, results)
 }
 
 #[no_mangle]
@@ -123,7 +123,7 @@ pub extern "C" fn wethertide_drained(machine: &[u64], words: &[u32]) -> bool
     ensures { λ r. ⌜ r ≡ drained (length (now (words .entry))) (machineIn (now (machine .entry))) ⌝ }
 {
     let m = machine_in(machine);
-    held::count::drained(m, words)
+    left::drained(m, words)
 }
 
 // Answers the refusal; the row of answers takes the steps left.
@@ -139,7 +139,7 @@ pub extern "C" fn wethertide_steps_left(
         × (now (answer .exit) ≡ sets (now (answer .entry)) 0 (stepsLeft binary64 (lent (now (words .entry)) (now (operands .entry)) (now (results .entry))) (machineIn (now (machine .entry))) .left ∷ [])) ⌝ }
 {
     let m = machine_in(machine);
-    let left = held::count::steps_left(m, words, operands, results);
+    let left = left::steps_left(m, words, operands, results);
     let told: [u64; 1] = [left.left as u64];
     put_words(answer, 0, &told);
     left.refusal

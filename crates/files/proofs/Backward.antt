@@ -7,9 +7,9 @@ use native.Mathlib.Omega.{arith}
 use lib.Dec.{ltb, eqb}
 use lib.ListN.{length, getD, drop}
 use borrow.Author.Tests.{ltb-true, ltb-false, eqb-true, eqb-false}
-use Rattle.files.specs.SevenBits.{Groups, whole, broken, numberIn, bytesOf}
+use Rattle.groups.specs.SevenBits.{Groups, whole, broken, numberIn, bytesOf}
 use Rattle.files.specs.RoundTrip.{Bytes}
-use Rattle.files.proofs.Groups.{one-byte, cut-after-one, zero-second, two-bytes, cut-after-two, zero-third, three-bytes, large-third}
+use Rattle.groups.proofs.Groups.{one-byte, cut-after-one, zero-second, two-bytes, cut-after-two, zero-third, three-bytes, large-third}
 use Rattle.files.proofs.Shortest.{bytes-one, bytes-two, bytes-three}
 
 -- bytes that give a number are that number's, and then the rest

@@ -15,10 +15,10 @@ use Rattle.words.specs.Check.{operationRefusal, registerRefusal, operandRefusal
 use Rattle.words.proofs.Known.{known-operation, known-register, known-operand}
 use Rattle.words.proofs.Fields.{word-of-fields}
 use Rattle.words.proofs.Passes.{word-passes, list-passes}
-use Rattle.files.specs.SevenBits.{Groups, whole, numberIn, Parsed, accepted, placed, numberAt, bytesOf}
+use Rattle.groups.specs.SevenBits.{Groups, whole, numberIn, Parsed, accepted, placed, numberAt, bytesOf}
 use Rattle.files.specs.Reading.{fieldAt, operandAt, r1At, wordAt, wordsAt}
 use Rattle.files.specs.Writing.{wordBytes, wordsBytes}
-use Rattle.files.proofs.Groups.{one-byte, two-bytes, three-bytes}
+use Rattle.groups.proofs.Groups.{one-byte, two-bytes, three-bytes}
 use Rattle.files.proofs.Laid.{word-size}
 use Rattle.files.proofs.Shortest.{bytes-one, bytes-two, bytes-three}
 

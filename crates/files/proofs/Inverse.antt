@@ -6,9 +6,9 @@ use Prim.Native.Nat.{ℕ}
 use native.Mathlib.Omega.{arith}
 use lib.Dec.{eqb}
 use borrow.Author.Tests.{eqb-true, ne-eqb}
-use Rattle.files.specs.declared.number.Parsed as code
-use Rattle.files.specs.SevenBits.{Parsed, accepted, refused, numberAt}
-use Rattle.files.specs.Told.{told}
+use Rattle.groups.specs.declared.Parsed as code
+use Rattle.groups.specs.SevenBits.{Parsed, accepted, refused, numberAt}
+use Rattle.groups.specs.Told.{told}
 use Rattle.files.specs.Reading.{andThen, owned, fieldAt}
 use Rattle.files.specs.Passes.{keptBy}
 

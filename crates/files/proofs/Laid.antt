@@ -7,9 +7,9 @@ use native.Mathlib.Omega.{arith}
 use lib.ListN.{length, getD, set, drop, length-append, drop-of-length-le}
 use lib.Seq.{sets, length-sets}
 use Rattle.words.specs.Instructions.{operationField, r1Field, operandField}
-use Rattle.files.specs.SevenBits.{bytesOf}
+use Rattle.groups.specs.SevenBits.{bytesOf}
 use Rattle.files.specs.Writing.{wordBytes, wordsBytes, fileOf}
-use Rattle.files.proofs.Peel.{peel-one}
+use Rattle.groups.proofs.Peel.{peel-one}
 use Rattle.files.proofs.Shortest.{few-bytes}
 
 pub sets-append : {A : Type 0} (l : List A) (i : ℕ) (xs ys : List A) → sets l i (xs ++ ys) ≡ sets (sets l i xs) (i + length xs) ys

@@ -1,13 +1,10 @@
 pub mod Backward
 pub mod Determined
 pub mod Forward
-pub mod Groups
 pub mod Inverse
 pub mod Laid
 pub mod Measured
-pub mod NumberAt
 pub mod Passed
-pub mod Peel
 pub mod Refusals
 pub mod RoundTrip
 pub mod Shortest

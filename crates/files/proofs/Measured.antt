@@ -8,7 +8,7 @@ use borrow.Author.Tests.{lt-ltb, le-ltb}
 use Rattle.words.specs.declared.Verdict.{Verdict}
 use Rattle.words.specs.Check.{wordRefusal, firstBad, listCheck, listCheckAlone}
 use Rattle.words.proofs.Bad.{bad-here, bad-later, bad-none}
-use Rattle.files.specs.SevenBits.{bytesOf}
+use Rattle.groups.specs.SevenBits.{bytesOf}
 use Rattle.files.specs.Writing.{wordBytes, wordsBytes, fileOf}
 use Rattle.files.specs.Passes.{Measuring}
 use Rattle.files.proofs.Laid.{words-next, nine-bytes}

@@ -9,7 +9,7 @@ use lib.ListN.{length, drop}
 use borrow.Author.Tests.{eqb-false}
 use Rattle.words.specs.Check.{operationRefusal, registerRefusal, operandRefusal}
 use Rattle.words.specs.Instructions.{formOf}
-use Rattle.files.specs.SevenBits.{Groups, whole, broken, follows, joined, lastGroup, laterGroups, groups, limited, numberIn, Parsed, accepted, refused, placed, numberAt}
+use Rattle.groups.specs.SevenBits.{Groups, whole, broken, follows, joined, lastGroup, laterGroups, groups, limited, numberIn, Parsed, accepted, refused, placed, numberAt}
 use Rattle.files.specs.Reading.{andThen, owned, fieldAt, operandAt, r1At, wordAt, wordsAt, countRefusal, listIn}
 
 abbrev pub Real : {A : Type 0} → Parsed A → Type 0

@@ -12,7 +12,7 @@ use Rattle.words.specs.declared.Verdict.{Verdict}
 use Rattle.words.specs.Check.{firstBad, listCheck, listCheckAlone, firstOf}
 use Rattle.files.specs.declared.Read.{Read}
 use Rattle.files.specs.declared.Written.{Written}
-use Rattle.files.specs.SevenBits.{Parsed, accepted, refused, bytesOf}
+use Rattle.groups.specs.SevenBits.{Parsed, accepted, refused, bytesOf}
 use Rattle.files.specs.Reading.{fieldAt, wordsAt, countRefusal, listIn, answered, stored, over, readAnswer, readWords}
 use Rattle.files.specs.Writing.{wordsBytes, fileOf, writtenBy, writeAnswer, writeBytes}
 use Rattle.files.specs.RoundTrip.{Bytes, ReadThenWrite, WriteThenRead}

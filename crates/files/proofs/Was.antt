@@ -9,7 +9,7 @@ use Rattle.words.specs.Instructions.{wordOf, operationField, r1Field, operandFi
 use Rattle.words.specs.Check.{operationRefusal, registerRefusal, operandRefusal}
 use Rattle.words.proofs.Known.{known-operation, known-register, known-operand}
 use Rattle.words.proofs.Fields.{operation-of-word, r1-of-word, operand-of-word}
-use Rattle.files.specs.SevenBits.{Groups, whole, broken, numberIn, Parsed, accepted, placed, numberAt, bytesOf}
+use Rattle.groups.specs.SevenBits.{Groups, whole, broken, numberIn, Parsed, accepted, placed, numberAt, bytesOf}
 use Rattle.files.specs.Reading.{fieldAt, operandAt, r1At, wordAt, wordsAt, countRefusal, listIn}
 use Rattle.files.specs.Writing.{wordBytes, wordsBytes, fileOf}
 use Rattle.files.specs.RoundTrip.{Bytes}

@@ -10,7 +10,7 @@ use lib.Dec.{ltb}
 use lib.ListN.{length, take, set, length-set}
 use lib.Seq.{take-suc-set}
 use borrow.Author.Tests.{ltb-false, lt-ltb, le-ltb}
-use Rattle.files.specs.SevenBits.{Parsed, accepted, refused}
+use Rattle.groups.specs.SevenBits.{Parsed, accepted, refused}
 use Rattle.files.specs.Reading.{andThen, wordAt, wordsAt}
 use Rattle.files.proofs.Inverse.{not-accepted, value-of, next-of, then-of}
 

@@ -11,7 +11,7 @@ use borrow.Author.Tests.{ltb-false, lt-ltb, le-ltb, eq-eqb, ne-eqb}
 use Rattle.words.specs.declared.Verdict.{Verdict}
 use Rattle.words.specs.Check.{firstBad, listCheck, listCheckAlone}
 use Rattle.files.specs.declared.Written.{Written}
-use Rattle.files.specs.SevenBits.{bytesOf}
+use Rattle.groups.specs.SevenBits.{bytesOf}
 use Rattle.files.specs.Writing.{wordsBytes, fileOf, writeAnswer, writeBytes}
 use Rattle.files.specs.Passes.{Measuring}
 use Rattle.files.proofs.Laid.{sets-append}

@@ -1,6 +1,4 @@
-pub mod SevenBits
 pub mod Reading
 pub mod Writing
 pub mod RoundTrip
-pub mod Told
 pub mod Passes

@@ -5,7 +5,7 @@ use Prim.Native.Nat.{ℕ}
 use lib.ListN.{length}
 use Rattle.words.specs.declared.Verdict.{Verdict}
 use Rattle.words.specs.Check.{listCheckAlone}
-use Rattle.files.specs.SevenBits.{Parsed, accepted}
+use Rattle.groups.specs.SevenBits.{Parsed, accepted}
 use Rattle.files.specs.Reading.{andThen}
 use Rattle.files.specs.Writing.{fileOf}
 

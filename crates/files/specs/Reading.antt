@@ -7,7 +7,7 @@ use lib.ListN.{length, drop}
 use Rattle.words.specs.Instructions.{wordOf, formOf, cellLimit, listLimit}
 use Rattle.words.specs.Check.{operationRefusal, registerRefusal, operandRefusal, firstOf}
 use Rattle.files.specs.declared.Read.{Read}
-use Rattle.files.specs.SevenBits.{Parsed, accepted, refused, numberAt}
+use Rattle.groups.specs.SevenBits.{Parsed, accepted, refused, numberAt}
 
 -- "Reading goes left to right": what is read next begins where this ended; a refusal ends the reading
 abbrev pub andThen : {A B : Type 0} → Parsed A → (A → ℕ → Parsed B) → Parsed B

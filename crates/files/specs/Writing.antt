@@ -8,7 +8,7 @@ use Rattle.words.specs.declared.Verdict.{Verdict}
 use Rattle.words.specs.Instructions.{operationField, r1Field, operandField}
 use Rattle.words.specs.Check.{listCheckAlone}
 use Rattle.files.specs.declared.Written.{Written}
-use Rattle.files.specs.SevenBits.{bytesOf}
+use Rattle.groups.specs.SevenBits.{bytesOf}
 use Rattle.files.specs.Reading.{over}
 
 -- "operation, R1 and operand for each word"

@@ -1,5 +1,4 @@
-// List files of document 01: numbers in groups of seven bits, the reader and the writer.
-pub mod number;
+// List files of document 01: the reader and the writer.
 pub mod reader;
 pub mod writer;
 

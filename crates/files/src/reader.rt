@@ -1,7 +1,7 @@
 // The reader, in one pass over the file.
 use crate::Read;
-use crate::number::Parsed;
-use crate::number::number_at;
+use groups::Parsed;
+use groups::number_at;
 use words::CELL_LIMIT;
 use words::LIST_LIMIT;
 use words::refusal;
@@ -10,7 +10,7 @@ ghost use Prim.Native.Nat.{_≤_, _<_};
 ghost use lib.ListN.{length, take};
 ghost use Rattle.words.specs.Instructions.{wordOf, listLimit};
 ghost use Rattle.words.specs.Check.{operationRefusal, registerRefusal};
-ghost use Rattle.files.specs.Told.{told};
+ghost use Rattle.groups.specs.Told.{told};
 ghost use Rattle.files.specs.Reading.{operandAt, r1At, wordAt, wordsAt, countRefusal, answered, over, stored, readAnswer, readWords};
 ghost use Rattle.files.specs.Passes.{keptBy};
 

@@ -7,7 +7,7 @@ ghost use mathlib.Core.Path.{_≡_};
 ghost use Prim.Native.Nat.{_+_, _%_, _≤_, _<_};
 ghost use lib.ListN.{length};
 ghost use lib.Seq.{sets};
-ghost use Rattle.files.specs.SevenBits.{groupSize, groupOf, bytesOf};
+ghost use Rattle.groups.specs.SevenBits.{groupSize, groupOf, bytesOf};
 ghost use Rattle.files.specs.Writing.{wordBytes, wordsBytes, writeAnswer, writeBytes};
 ghost use Rattle.files.specs.Passes.{Measuring};
 

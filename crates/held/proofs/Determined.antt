@@ -3,20 +3,11 @@ use mathlib.Core.Path.{_≡_, ap}
 use lib.Ieee.{Float}
 use Rattle.numbers.proofs.Determined.{Determines, one-answer}
 use Rattle.order.specs.Entries as order
-use Rattle.held.specs.declared.count.Left.{Left}
 use Rattle.held.specs.declared.start.FreshMachine.{FreshMachine}
-use Rattle.held.specs.Answers.{viewLeft, viewFresh}
+use Rattle.held.specs.Answers.{viewFresh}
 use Rattle.held.proofs.Exact.{view-exact}
-use Rattle.held.proofs.good_order.good_order.Kinds as good-order-kinds
-use Rattle.held.proofs.good_order.good_order.Reads as good-order-reads
-use Rattle.held.proofs.count.drained.Kinds as drained-kinds
-use Rattle.held.proofs.count.drained.Reads as drained-reads
-use Rattle.held.proofs.count.steps_left.Kinds as steps-left-kinds
-use Rattle.held.proofs.count.steps_left.Reads as steps-left-reads
 use Rattle.held.proofs.start.fresh.Kinds as fresh-kinds
 use Rattle.held.proofs.start.fresh.Reads as fresh-reads
-use Rattle.held.proofs.good_order.in_good_order.Kinds as in-good-order-kinds
-use Rattle.held.proofs.good_order.in_good_order.Reads as in-good-order-reads
 use Rattle.held.proofs.parts.Tag.suits.Kinds as suits-kinds
 use Rattle.held.proofs.parts.Tag.suits.Reads as suits-reads
 use Rattle.held.proofs.parts.Tag.of_buffer.Kinds as of-buffer-kinds
@@ -28,28 +19,13 @@ use Rattle.held.proofs.parts.Register.index_of.Reads as index-of-reads
 use Rattle.held.specs.declared.parts.Tag.{Tag}
 use Prim.Native.Nat.{ℕ}
 
-left-exact : (x y : Left) → viewLeft x ≡ viewLeft y → x ≡ y
-left-exact x y e = ap (λ (l : order.StepsLeft). record { refusal = l .refusal; left = l .left }) e
-
 fresh-exact : (x y : FreshMachine) → viewFresh x ≡ viewFresh y → x ≡ y
 fresh-exact x y e =
     let m = view-exact (x .machine) (y .machine) (ap (λ (f : order.Fresh Float). f .machine) e) in
     λ i. record { machine = m i; refusal = e i .refusal }
 
-pub good-order-determined : Determines 3 good-order-kinds.ps good-order-kinds.r good-order-reads.Post
-good-order-determined κs a x y s t = one-answer
-
-pub drained-determined : Determines 1 drained-kinds.ps drained-kinds.r drained-reads.Post
-drained-determined κs a x y s t = one-answer
-
-pub steps-left-determined : Determines 3 steps-left-kinds.ps steps-left-kinds.r steps-left-reads.Post
-steps-left-determined κs a x y s t p q = left-exact x y (one-answer p q)
-
 pub fresh-determined : Determines 3 fresh-kinds.ps fresh-kinds.r fresh-reads.Post
 fresh-determined κs a x y s t p q = fresh-exact x y (one-answer p q)
-
-pub in-good-order-determined : Determines 0 in-good-order-kinds.ps in-good-order-kinds.r in-good-order-reads.Post
-in-good-order-determined κs a x y s t = one-answer
 
 pub suits-determined : Determines 0 suits-kinds.ps suits-kinds.r suits-reads.Post
 suits-determined κs a x y s t = one-answer

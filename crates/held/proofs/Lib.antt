@@ -1,13 +1,7 @@
 pub mod Adders
-pub mod Apart
-pub mod BySlots
 pub mod Checked
 pub mod Determined
 pub mod Exact
 pub mod Four
-pub mod Loops
-pub mod Placed
 pub mod Seen
-pub mod Sums
-pub mod Weights
 pub mod Whole

@@ -3,13 +3,13 @@ use mathlib.Core.Path.{_≡_, refl, sym, ap, _∙_}
 use mathlib.Core.Bool.{Bool, true, false, cond, not}
 use mathlib.Core.Option.{Option, none, some}
 use mathlib.Core.List.{List}
-use Prim.Native.Nat.{ℕ, zero, suc, _+_, _≤_, _<_}
+use Prim.Native.Nat.{ℕ, zero, suc, _+_, _-_, _≤_, _<_}
 use native.Mathlib.Omega.{arith}
 use lib.Dec.{eqb, ltb, leb}
 use lib.Ieee.{Float}
 use lib.ListN.{length}
 use borrow.Author.Tests.{eq-eqb, ne-eqb, lt-ltb, le-ltb, ltb-true}
-use Rattle.files.specs.SevenBits.{Parsed, accepted, refused, numberAt}
+use Rattle.groups.specs.SevenBits.{Parsed, accepted, refused, numberAt}
 use Rattle.order.specs.Machine as order
 use Rattle.order.specs.Machine.{Lent, Released}
 use Rattle.order.specs.Issue.{Answer, isTaken}
@@ -32,6 +32,7 @@ use Rattle.taking.specs.declared.taking.Taken as declared
 use Rattle.taking.specs.Inside.{lentTo}
 use Rattle.taking.specs.Taking as taking
 use Rattle.taking.specs.Taking.{Taken, viewTaken, byNumber, byRelease, afterStep, takeFrom}
+use Rattle.taking.proofs.Counted.{counted, counted-on, few-steps}
 use Rattle.machine.specs.Advance.{beginning, stays, stopped, takenOn, goes, advanced, cellsAfter}
 
 module _ (m : Machine) (words : List ℕ) (operands : List Float) (results : ℕ) {v : Verdict} (e : v ≡ listCheck (length operands) results words) where
@@ -102,8 +103,19 @@ module _ (p : Progress) (words : List ℕ) (operands cells : List Float) (schedu
   pub never : p .going ≡ true → p .place < p .steps → {r : Stop} → r ≡ stays p → Stops r cells
   never g h e = over (rw (g, lt-ltb (p .place) (p .steps) h)) e
 
-  module _ (g : p .going ≡ true) (h : p .steps ≤ p .place) (t : declared.Taken) (e : viewTaken t ≡ takenOn p words operands cells schedule room) {cells′ : List Float}
+  module _ (g : p .going ≡ true) (h : p .steps ≤ p .place) (t : declared.Taken)
+      (q : viewTaken t ≡ takeFrom (lentTo words operands (length cells)) (ltb (p .records) room) schedule (length schedule) (view (p .machine)) 0 (p .place)) {cells′ : List Float}
       (w : cells′ ≡ written cells (viewReleased (t .released))) where
+    -- with the steps before
+    e : counted (p .steps) (viewTaken t) ≡ takenOn p words operands cells schedule room
+    e = ap (counted (p .steps)) q ∙ sym (counted-on (lentTo words operands (length cells)) (ltb (p .records) room) schedule (p .steps) (length schedule) (view (p .machine)) (p .steps) 0 (p .place) (omega arith))
+
+    pub few : t .steps ≤ length schedule - p .place
+    few =
+        let z : t .steps ≡ takeFrom (lentTo words operands (length cells)) (ltb (p .records) room) schedule (length schedule) (view (p .machine)) 0 (p .place) .steps = ap (λ (t : Taken). t .steps) q in
+        let f = few-steps (lentTo words operands (length cells)) (ltb (p .records) room) schedule (length schedule) (view (p .machine)) 0 (p .place) in
+        rw z (omega (arith, f))
+
     going-on : goes p words operands cells schedule room ≡ true
     going-on = rw (g, le-ltb (p .place) (p .steps) h)
 
@@ -117,30 +129,30 @@ module _ (p : Progress) (words : List ℕ) (operands cells : List Float) (schedu
     unfolding cellsAfter
     cells-so = w ∙ ap (λ (t : Taken). written cells (t .released)) e ∙ rw going-on
 
-    stop-so : stopped p (viewTaken t) (viewReleased (t .released)) ≡ advanced p words operands cells schedule room
+    stop-so : stopped p (counted (p .steps) (viewTaken t)) (viewReleased (t .released)) ≡ advanced p words operands cells schedule room
     unfolding advanced
     stop-so = ap (λ (t : Taken). stopped p t (t .released)) e ∙ rw going-on
 
     pub no-release : t .released ≡ Nothing → {r : Stop}
-        → r ≡ stays (record { machine = t .machine; steps = t .steps; place = t .place; refusal = t .refusal; records = p .records; going = false })
+        → r ≡ stays (record { machine = t .machine; steps = p .steps + t .steps; place = t .place; refusal = t .refusal; records = p .records; going = false })
         → Stops r cells′
     no-release z q = (
       q
-          ∙ ap (λ (m : Machine). stays (record { machine = m; steps = t .steps; place = t .place; refusal = t .refusal; records = p .records; going = false })) (sym (back (t .machine)))
+          ∙ ap (λ (m : Machine). stays (record { machine = m; steps = p .steps + t .steps; place = t .place; refusal = t .refusal; records = p .records; going = false })) (sym (back (t .machine)))
           ∙ (rw z at stop-so),
       cells-so,
     )
 
     pub release : (made : Record) → t .released ≡ One made
         → Stops (record {
-          progress = record { machine = t .machine; steps = t .steps; place = t .place; refusal = t .refusal; records = p .records + 1; going = true };
+          progress = record { machine = t .machine; steps = p .steps + t .steps; place = t .place; refusal = t .refusal; records = p .records + 1; going = true };
           made = made;
           index = p .records;
           released = true;
         }) cells′
     release made z = (
       ap (λ (m : Machine). record {
-        progress = record { machine = m; steps = t .steps; place = t .place; refusal = t .refusal; records = p .records + 1; going = true };
+        progress = record { machine = m; steps = p .steps + t .steps; place = t .place; refusal = t .refusal; records = p .records + 1; going = true };
         made = made;
         index = p .records;
         released = true;

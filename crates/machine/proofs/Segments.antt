@@ -10,21 +10,17 @@ use lib.Ieee.{Float}
 use lib.ListN.{length}
 use borrow.Author.Tests.{ltb-true, ltb-false, le-leb, lt-leb, eqb-true}
 use Rattle.words.specs.Instructions.{listLimit}
-use Rattle.files.specs.SevenBits.{Parsed, accepted, refused, numberAt}
+use Rattle.groups.specs.SevenBits.{Parsed, accepted, refused, numberAt}
 use Rattle.order.specs.Machine.{Lent, Machine, Shape, Released}
 use Rattle.order.specs.Binary64.{binary64}
 use Rattle.order.specs.Issue.{Answer}
 use Rattle.order.specs.Steps.{perform, inOrder}
 use Rattle.order.specs.Asked.{State, written}
+use Rattle.order.proofs.Rows.{both-cases}
 use Rattle.order.proofs.Theorems.{goodOrderKept, stepIsPerform}
 use Rattle.runs.specs.Run.{Ran, byTurn, turn, turnOf, runFrom}
 use Rattle.taking.specs.Taking.{Taken, stopped, byNumber, afterStep, takeFrom}
 use Rattle.taking.proofs.Forwards.{moves-on}
-
--- one test, two choices by it
-both-cases : {A B : Type 0} (Q : A → B → Type 0) (b : Bool) {x y : A} {u v : B} → (b ≡ true → Q x u) → (b ≡ false → Q y v) → Q (cond b x y) (cond b u v)
-both-cases Q true f g = f refl
-both-cases Q false f g = g refl
 
 abbrev pub stateAt : Machine Float → (cells : List Float) → (log : List (Released Float)) → State Float
 stateAt m cells log = record { machine = m; cells = cells; log = log }

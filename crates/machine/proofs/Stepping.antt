@@ -8,7 +8,7 @@ use Prim.Native.Nat.{ℕ, _≤_, _<_}
 use lib.Ieee.{Float}
 use lib.ListN.{length}
 use borrow.Author.Tests.{lt-ltb, le-ltb, lt-leb, ne-eqb}
-use Rattle.files.specs.SevenBits.{accepted, numberIn, numberAt}
+use Rattle.groups.specs.SevenBits.{accepted, numberIn, numberAt}
 use Rattle.order.specs.Machine as order
 use Rattle.order.specs.Machine.{Lent, Released}
 use Rattle.order.proofs.Rows.{above}

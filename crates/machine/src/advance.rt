@@ -1,10 +1,10 @@
 // A run from release to release. The log is not here: what is released is handed to whoever keeps it.
 use crate::step::write_released;
-use held::good_order::in_good_order;
+use good_order::in_good_order;
 use held::parts::Machine;
 use held::parts::Record;
 use held::parts::Released;
-use taking::take_codes;
+use taking::taking::take_codes;
 use words::refusal;
 ghost use mathlib.Core.Path.{_≡_};
 ghost use Rattle.machine.specs.Advance.{beginning, stays, advanced, cellsAfter};
@@ -94,13 +94,13 @@ pub fn advance(
     let records = p.records;
     let size = results.len();
     let fits = records < room;
-    let taken = take_codes(m, words, operands, size, schedule, p.place, p.steps, fits);
+    let taken = take_codes(m, words, operands, size, schedule, p.place, fits);
     let machine = taken.machine;
     let released = taken.released;
     write_released(released, results);
     let mut progress = Progress {
         machine,
-        steps: taken.steps,
+        steps: p.steps + taken.steps,
         place: taken.place,
         refusal: taken.refusal,
         records,

@@ -1,7 +1,7 @@
 // The lowest permitted step.
-use held::good_order::in_good_order;
+use good_order::in_good_order;
 use held::parts::Machine;
-use taking::take_codes;
+use taking::taking::take_codes;
 use words::refusal;
 ghost use mathlib.Core.Path.{_≡_};
 ghost use Rattle.order.specs.Binary64.{binary64};
@@ -30,7 +30,7 @@ fn lowest_permitted(m: Machine, words: &[u32], operands: &[f64], results: usize)
     let mut code = 0;
     while code < CODE_LIMIT {
         let schedule: [u8; 1] = [code as u8];
-        let taken = take_codes(m, words, operands, results, &schedule, 0, 0, true);
+        let taken = take_codes(m, words, operands, results, &schedule, 0, true);
         if taken.refusal == 0 {
             return Lowest::Code(code);
         }

@@ -1,9 +1,9 @@
 // One step: the entry that checks the list's length and the machine, and writes the result cell of a release.
-use held::good_order::in_good_order;
+use good_order::in_good_order;
 use held::parts::Machine;
 use held::parts::Released;
 use held::parts::Stepped;
-use taking::take_codes;
+use taking::taking::take_codes;
 use words::LIST_LIMIT;
 use words::refusal;
 ghost use mathlib.Core.Path.{_≡_};
@@ -56,7 +56,7 @@ pub fn step(m: Machine, words: &[u32], operands: &[f64], results: &mut [f64], co
         return refused(m, refusal::CODE);
     }
     let schedule: [u8; 1] = [code as u8];
-    let taken = take_codes(m, words, operands, results.len(), &schedule, 0, 0, true);
+    let taken = take_codes(m, words, operands, results.len(), &schedule, 0, true);
     let machine = taken.machine;
     let released = taken.released;
     write_released(released, results);

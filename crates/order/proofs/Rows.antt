@@ -24,6 +24,11 @@ pub cond-cases {ℓ κ} : {A : Type ℓ} (Q : A → Type κ) (b : Bool) {x y : A
 cond-cases Q true f g = f refl
 cond-cases Q false f g = g refl
 
+-- one test, two choices by it
+pub both-cases : {A B : Type 0} (Q : A → B → Type 0) (b : Bool) {x y : A} {u v : B} → (b ≡ true → Q x u) → (b ≡ false → Q y v) → Q (cond b x y) (cond b u v)
+both-cases Q true f g = f refl
+both-cases Q false f g = g refl
+
 pub and-l : (a b : Bool) → a && b ≡ true → a ≡ true
 and-l true b e = refl
 and-l false b e = e

@@ -11,7 +11,7 @@ use lib.Seq.{sets, take-append-seam}
 use borrow.Author.Tests.{ltb-false, eq-eqb, ne-eqb}
 use Rattle.words.specs.declared.Verdict.{Verdict}
 use Rattle.files.specs.declared.Read.{Read}
-use Rattle.files.specs.SevenBits.{Parsed, accepted, refused}
+use Rattle.groups.specs.SevenBits.{Parsed, accepted, refused}
 use Rattle.files.specs.Reading.{fieldAt, wordsAt, countRefusal, listIn, answered, readAnswer, readWords}
 use Rattle.files.proofs.Inverse.{field-of, then-of}
 use Rattle.files.proofs.Words.{as-many}

@@ -9,7 +9,7 @@ use lib.Ieee.{Float}
 use lib.ListN.{length, getD, set, take, drop, length-set}
 use lib.Seq.{sets}
 use Rattle.numbers.specs.Number.{numberOf}
-use Rattle.files.proofs.Peel.{peel-one}
+use Rattle.groups.proofs.Peel.{peel-one}
 use Rattle.texts.specs.Operands.{bigEndian, patternAt, numbersAt}
 
 -- so many bytes of a pattern joined

@@ -8,7 +8,7 @@ use lib.Seq.{sets, length-sets}
 use borrow.Author.Tests.{lt-ltb, le-ltb}
 use Rattle.files.proofs.Laid.{sets-append}
 use Rattle.files.proofs.Passed.{sets-over}
-use Rattle.files.proofs.Peel.{peel-one}
+use Rattle.groups.proofs.Peel.{peel-one}
 use Rattle.pages.specs.Put.{Room, Put, PutIn, Printed}
 
 module _ {a : List ℕ} {i : ℕ} where

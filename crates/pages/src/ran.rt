@@ -1,9 +1,9 @@
 // A run: the machine that it starts from, its schedule, and what is told of it.
 use crate::page::put_page;
-use held::count::steps_left;
 use held::parts::Machine;
 use held::parts::Record;
 use held::start::fresh;
+use left::steps_left;
 use lent::run::run_logged;
 use machine::advance::Progress;
 ghost use mathlib.Core.Path.{_≡_};

@@ -9,7 +9,7 @@ use native.Mathlib.Omega.{arith}
 use lib.Dec.{leb}
 use lib.ListN.{length, length-append}
 use borrow.Author.Tests.{leb-true, leb-false, eqb-false, not-true, not-false}
-use Rattle.files.specs.SevenBits.{Parsed, accepted, refused, numberAt}
+use Rattle.groups.specs.SevenBits.{Parsed, accepted, refused, numberAt}
 use Rattle.order.specs.Machine.{Kind, Lent, Released}
 use Rattle.order.specs.Issue.{Answer, isTaken}
 use Rattle.order.specs.Steps.{step}

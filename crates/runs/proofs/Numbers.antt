@@ -5,7 +5,7 @@ use Prim.Native.Nat.{ℕ, zero, suc, _≤_, _<_}
 use native.Mathlib.Omega.{arith}
 use lib.Dec.{ltb, eqb}
 use lib.ListN.{length, drop, length-drop}
-use Rattle.files.specs.SevenBits.{Parsed, accepted, refused, Groups, whole, broken, follows, joined, lastGroup, laterGroups, groups, limited, numberLimit, numberIn, placed, numberAt}
+use Rattle.groups.specs.SevenBits.{Parsed, accepted, refused, Groups, whole, broken, follows, joined, lastGroup, laterGroups, groups, limited, numberLimit, numberIn, placed, numberAt}
 use Rattle.order.proofs.Rows.{cond-cases}
 
 -- what bytes give, of so many of them

@@ -5,7 +5,7 @@ use mathlib.Core.List.{List, [], _++_}
 use Prim.Native.Nat.{ℕ, zero, suc}
 use lib.Dec.{leb, eqb}
 use lib.ListN.{length, drop}
-use Rattle.files.specs.SevenBits.{Parsed, accepted, refused, numberAt}
+use Rattle.groups.specs.SevenBits.{Parsed, accepted, refused, numberAt}
 use Rattle.order.specs.Machine.{Kind, Lent, Machine, Released}
 use Rattle.order.specs.Issue.{Answer, isTaken}
 use Rattle.order.specs.Steps.{inOrder, step}

@@ -3,7 +3,7 @@ use mathlib.Core.Path.{_≡_, refl}
 use lib.Ieee.{toBits, ofBits, add, sub, mul, div}
 use Rattle.words.specs.Instructions.{isRegister, isCell}
 use Rattle.words.specs.Check.{operationRefusal, registerRefusal, cellRefusal, wordRefusal, listCheck}
-use Rattle.files.specs.SevenBits.{numberIn, numberAt, bytesOf}
+use Rattle.groups.specs.SevenBits.{numberIn, numberAt, bytesOf}
 use Rattle.files.specs.Reading.{fieldAt, operandAt, r1At, wordAt, listIn}
 use Rattle.files.specs.Writing.{wordBytes}
 use Rattle.order.specs.Tags.{slotOf}

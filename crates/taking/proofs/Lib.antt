@@ -1,5 +1,6 @@
 pub mod Arms
 pub mod Changing
+pub mod Counted
 pub mod Determined
 pub mod Forwards
 pub mod Found

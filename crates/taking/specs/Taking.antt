@@ -7,7 +7,7 @@ use Prim.Native.Nat.{ℕ, zero, suc}
 use lib.Dec.{leb}
 use lib.Ieee.{Float}
 use lib.ListN.{length}
-use Rattle.files.specs.SevenBits.{Parsed, accepted, refused, numberAt}
+use Rattle.groups.specs.SevenBits.{Parsed, accepted, refused, numberAt}
 use Rattle.order.specs.Machine.{Lent, Machine, Released}
 use Rattle.order.specs.Binary64.{binary64}
 use Rattle.order.specs.Issue.{Answer, isTaken}

@@ -3,8 +3,8 @@
 use crate::change;
 use crate::change::Change;
 use crate::issue::issue;
-use files::number::Parsed;
-use files::number::number_at;
+use groups::Parsed;
+use groups::number_at;
 use held::parts::Machine;
 use held::parts::Released;
 use held::parts::Tag;
@@ -14,13 +14,12 @@ use slots::code::step_of;
 use slots::made;
 use words::refusal;
 ghost use mathlib.Core.Path.{_≡_};
-ghost use Prim.Native.Nat.{_≤_};
 ghost use lib.ListN.{length};
 ghost use Rattle.held.specs.View.{view};
 ghost use Rattle.taking.specs.Inside.{lentTo};
 ghost use Rattle.taking.specs.Taking.{viewTaken, takeFrom};
 
-// Where a row of codes stops: the refusal that stopped it, 0 at a release or at the end, and the steps done, with those before.
+// Where a row of codes stops: the refusal that stopped it, 0 at a release or at the end, and the steps done.
 pub struct Taken {
     pub machine: Machine,
     pub steps: usize,
@@ -29,21 +28,20 @@ pub struct Taken {
     pub released: Released,
 }
 
-pub(crate) fn taking(
+// From a place of the schedule on; steps are counted from there.
+pub fn take_codes(
     m: Machine,
     words: &[u32],
     operands: &[f64],
     results: usize,
     schedule: &[u8],
     from: usize,
-    count: usize,
     room: bool,
 ) -> Taken
-    requires { ⌜ count ≤ from ⌝ }
-    ensures { λ r. ⌜ viewTaken r ≡ takeFrom (lentTo (now (words .entry)) (now (operands .entry)) results) room (now (schedule .entry)) (length (now (schedule .entry))) (view m) count from ⌝ }
+    ensures { λ r. ⌜ viewTaken r ≡ takeFrom (lentTo (now (words .entry)) (now (operands .entry)) results) room (now (schedule .entry)) (length (now (schedule .entry))) (view m) 0 from ⌝ }
 {
     let mut n = m;
-    let mut steps = count;
+    let mut steps = 0;
     let mut place = from;
     let mut refusal = refusal::ACCEPTED;
     let mut released = Released::Nothing;
@@ -123,22 +121,25 @@ pub(crate) fn taking(
                             n.stations[(t - Tag::FIRST_STATION) as usize] = made::free_station();
                         }
                         for i in 0..4 {
-                            if !bus::register_waits(n.registers[i], tag) {
+                            let register = n.registers[i];
+                            if !bus::register_waits(register, tag) {
                                 continue;
                             }
-                            n.registers[i] = bus::given_register(n.registers[i], tag, number);
+                            n.registers[i] = bus::given_register(register, tag, number);
                         }
                         for i in 0..5 {
-                            if !bus::station_waits(n.stations[i], tag) {
+                            let station = n.stations[i];
+                            if !bus::station_waits(station, tag) {
                                 continue;
                             }
-                            n.stations[i] = bus::given_station(n.stations[i], tag, number);
+                            n.stations[i] = bus::given_station(station, tag, number);
                         }
                         for i in 0..3 {
-                            if !bus::store_waits(n.stores[i], tag) {
+                            let store = n.stores[i];
+                            if !bus::store_waits(store, tag) {
                                 continue;
                             }
-                            n.stores[i] = bus::given_store(n.stores[i], tag, number);
+                            n.stores[i] = bus::given_store(store, tag, number);
                         }
                     }
                     Change::Releases(t, out) => {

@@ -10,7 +10,7 @@ use Rattle.numbers.specs.Number.{patternOf}
 use Rattle.words.specs.Instructions.{cellLimit, listLimit}
 use Rattle.words.specs.declared.Verdict.{Verdict}
 use Rattle.words.specs.Check.{listCheck}
-use Rattle.files.specs.SevenBits.{Parsed, accepted, refused}
+use Rattle.groups.specs.SevenBits.{Parsed, accepted, refused}
 use Rattle.files.specs.Reading.{listIn}
 use Rattle.order.specs.Tags.{registerCount}
 use Rattle.order.specs.Machine.{Lent, Operand, num, tag, Machine, Released}

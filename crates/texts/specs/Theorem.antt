@@ -5,7 +5,7 @@ use mathlib.Core.List.{List, _++_}
 use Prim.Native.Nat.{ℕ, _+_, _*_, _≤_, _<_}
 use lib.ListN.{length}
 use lib.Ieee.{Float}
-use Rattle.files.specs.SevenBits.{accepted, refused}
+use Rattle.groups.specs.SevenBits.{accepted, refused}
 use Rattle.files.specs.Reading.{listIn}
 use Rattle.order.specs.Machine.{Lent}
 use Rattle.texts.specs.declared.Fault.{Fault}

@@ -1,4 +1,4 @@
-use mathlib.Core.Path.{_≡_, sym}
+use mathlib.Core.Path.{_≡_, sym, ap, _∙_}
 use borrow.Author.Needs.{needs}
 use borrow.Author.Tests.{eq-eqb, ne-eqb}
 use Rattle.words.specs.Instructions.{operationField, r1Field, operandField, formOf}
@@ -10,16 +10,19 @@ use Rattle.words.proofs.word_refusal.Tie as tie
 -- the three refusals, of the word's own fields
 by-operation : (c : tie.After-operation-refusal)
     → c .operation-refusal .result ≡ operationRefusal (operationField (c .before .before .args .word))
-by-operation c = cc
+by-operation c = c .operation-refusal .ensures ∙ ap operationRefusal (c .before .operation-of .ensures)
 
 by-register : (c : tie.After-register-refusal)
     → c .register-refusal .result ≡ registerRefusal (r1Field (c .before .before .before .before .before .args .word))
-by-register c = cc
+by-register c = c .register-refusal .ensures ∙ ap registerRefusal (c .before .r1-of .ensures)
 
 by-operand : (c : tie.After-operand-refusal)
     → let a = c .before .before .before .before .before .before .before .before .before .args in
     c .operand-refusal .result ≡ operandRefusal (a .operands) (a .results) (formOf (operationField (a .word))) (operandField (a .word))
-by-operand c = cc
+by-operand c =
+    let t = c .before .before .before .before .before .before .before .before in
+    let f : c .before .before .form-of .result ≡ formOf (operationField (t .before .args .word)) = c .before .before .form-of .ensures ∙ ap formOf (t .operation-of .ensures) in
+    c .operand-refusal .ensures ∙ (λ i. operandRefusal (t .before .args .operands) (t .before .args .results) (f i) (c .before .operand-of .ensures i))
 
 returns : tie.Need-returns
 unfolding wordRefusal

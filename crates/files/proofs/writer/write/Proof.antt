@@ -1,7 +1,7 @@
 use mathlib.Core.Path.{_∙_}
 use native.Mathlib.Omega.{arith}
 use lib.ListN.{length, length-append}
-use Rattle.files.specs.SevenBits.{bytesOf}
+use Rattle.groups.specs.SevenBits.{bytesOf}
 use Rattle.files.specs.Writing.{wordsBytes}
 use Rattle.files.proofs.Wrote.{wrote-refused, wrote-short, wrote-all, wrote-within, sets-file}
 use borrow.Author.Needs.{needs}

@@ -1,7 +1,7 @@
 use native.Mathlib.Omega.{arith}
 use denote.Ref.{now}
 use borrow.Author.Tests.{not-true, not-false}
-use Rattle.machine.proofs.Advancing.{not-begun, never, has-room, no-release, release}
+use Rattle.machine.proofs.Advancing.{not-begun, never, few, has-room, no-release, release}
 use borrow.Author.Needs.{needs}
 use Rattle.machine.proofs.advance.advance.Statement.{statement}
 use Rattle.machine.proofs.advance.advance.Tie as tie
@@ -15,14 +15,17 @@ returns-2 c = let a = c .before .before .before .before .before .before .before 
 enum-told : tie.Need-enum-told
 enum-told c = search needs
 
+add-t20 : tie.Need-add-t20
+add-t20 c = let a = c .before .before .before .before .before .before .before .before .before .before .before .before .before .before .before .before .before .args in omega (arith, few (a .p) (now (a .words)) (now (a .operands)) (now (a .results)) (now (a .schedule)) (a .room) (not-false _ (c .before .before .before .before .before .before .before .before .before .before .before .if1 .left)) (c .before .before .before .before .before .before .before .before .before .if2 .left) (c .before .before .before .before .before .before .before .take-codes .result) (c .before .before .before .before .before .before .before .take-codes .ensures) (c .before .before .before .before .write-released .ensures), c .before .before .before .before .before .before .before .before .before .if2 .left, c .before .before .before .before .before .before .before .before .before .before .before .before .before .before .before .before .before .good .1 .1 .1 .1 .0 .0, c .before .before .before .before .before .before .before .before .before .before .before .before .before .before .before .before .before .good .0 .1 .1 .1 .0 .1)
+
 add-progress : tie.Need-add-progress
-add-progress c = let a = c .before .before .before .before .before .before .before .before .before .before .before .before .before .before .before .before .before .before .args in omega (arith, has-room (a .p) (now (a .words)) (now (a .operands)) (now (a .results)) (now (a .schedule)) (a .room) (not-false _ (c .before .before .before .before .before .before .before .before .before .before .before .before .if1 .left)) (c .before .before .before .before .before .before .before .before .before .before .if2 .left) (c .before .before .before .before .before .before .before .before .take-codes .result) (c .before .before .before .before .before .before .before .before .take-codes .ensures .0 (c .before .before .before .before .before .before .before .before .before .before .if2 .left)) (c .before .before .before .before .before .write-released .ensures) _ (c .before .released .given .1), c .before .before .before .before .before .before .before .before .before .before .before .before .before .before .before .before .before .before .fits .room .fits)
+add-progress c = let a = c .before .before .before .before .before .before .before .before .before .before .before .before .before .before .before .before .before .before .before .before .args in omega (arith, has-room (a .p) (now (a .words)) (now (a .operands)) (now (a .results)) (now (a .schedule)) (a .room) (not-false _ (c .before .before .before .before .before .before .before .before .before .before .before .before .before .before .if1 .left)) (c .before .before .before .before .before .before .before .before .before .before .before .before .if2 .left) (c .before .before .before .before .before .before .before .before .before .before .take-codes .result) (c .before .before .before .before .before .before .before .before .before .before .take-codes .ensures) (c .before .before .before .before .before .before .before .write-released .ensures) _ (c .before .released .given .1), c .before .before .before .before .before .before .before .before .before .before .before .before .before .before .before .before .before .before .before .before .fits .room .fits)
 
 returns-3 : tie.Need-returns-3
-returns-3 c = let a = c .before .before .before .before .before .before .before .before .before .before .before .before .before .before .before .before .before .before .args in no-release (a .p) (now (a .words)) (now (a .operands)) (now (a .results)) (now (a .schedule)) (a .room) (not-false _ (c .before .before .before .before .before .before .before .before .before .before .before .before .if1 .left)) (c .before .before .before .before .before .before .before .before .before .before .if2 .left) (c .before .before .before .before .before .before .before .before .take-codes .result) (c .before .before .before .before .before .before .before .before .take-codes .ensures .0 (c .before .before .before .before .before .before .before .before .before .before .if2 .left)) (c .before .before .before .before .before .write-released .ensures) (c .before .enum-told .given .1) (c .stays3 .ensures)
+returns-3 c = let a = c .before .before .before .before .before .before .before .before .before .before .before .before .before .before .before .before .before .before .before .before .args in no-release (a .p) (now (a .words)) (now (a .operands)) (now (a .results)) (now (a .schedule)) (a .room) (not-false _ (c .before .before .before .before .before .before .before .before .before .before .before .before .before .before .if1 .left)) (c .before .before .before .before .before .before .before .before .before .before .before .before .if2 .left) (c .before .before .before .before .before .before .before .before .before .before .take-codes .result) (c .before .before .before .before .before .before .before .before .before .before .take-codes .ensures) (c .before .before .before .before .before .before .before .write-released .ensures) (c .before .enum-told .given .1) (c .stays3 .ensures)
 
 returns-4 : tie.Need-returns-4
-returns-4 c = let a = c .before .before .before .before .before .before .before .before .before .before .before .before .before .before .before .before .before .before .args in release (a .p) (now (a .words)) (now (a .operands)) (now (a .results)) (now (a .schedule)) (a .room) (not-false _ (c .before .before .before .before .before .before .before .before .before .before .before .before .if1 .left)) (c .before .before .before .before .before .before .before .before .before .before .if2 .left) (c .before .before .before .before .before .before .before .before .take-codes .result) (c .before .before .before .before .before .before .before .before .take-codes .ensures .0 (c .before .before .before .before .before .before .before .before .before .before .if2 .left)) (c .before .before .before .before .before .write-released .ensures) _ (c .before .released .given .1)
+returns-4 c = let a = c .before .before .before .before .before .before .before .before .before .before .before .before .before .before .before .before .before .before .before .before .args in release (a .p) (now (a .words)) (now (a .operands)) (now (a .results)) (now (a .schedule)) (a .room) (not-false _ (c .before .before .before .before .before .before .before .before .before .before .before .before .before .before .if1 .left)) (c .before .before .before .before .before .before .before .before .before .before .before .before .if2 .left) (c .before .before .before .before .before .before .before .before .before .before .take-codes .result) (c .before .before .before .before .before .before .before .before .before .before .take-codes .ensures) (c .before .before .before .before .before .before .before .write-released .ensures) _ (c .before .released .given .1)
 
 pub advance-spec : {M : Type 1} → statement M
 advance-spec =
@@ -34,6 +37,7 @@ advance-spec =
     returns-2
     (λ c κs. search needs)
     (λ c κs. search needs)
+    add-t20
     enum-told
     (λ c κs. search needs)
     (λ c. search needs)

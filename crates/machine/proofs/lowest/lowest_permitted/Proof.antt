@@ -54,7 +54,7 @@ returns c =
     sym
     (lowest-is (a .m) (a .words .now) (a .operands .now) (a .results)
     ∙ searching-found _ (l .loop .inv) (k .before .before .loop-test .taken)
-    (sym (permitted (k .take-codes .result) (a .m) (a .words .now) (a .operands .now) (a .results) (l .loop .code) (omega (arith, k .before .before .loop-test .taken)) (k .take-codes .ensures .0 (omega arith))) ∙ eq-eqb _ 0 (c .if1 .taken)))
+    (sym (permitted (k .take-codes .result) (a .m) (a .words .now) (a .operands .now) (a .results) (l .loop .code) (omega (arith, k .before .before .loop-test .taken)) (k .take-codes .ensures)) ∙ eq-eqb _ 0 (c .if1 .taken)))
 
 loop-again : tie.Need-loop-again Inv-loop μ-loop
 loop-again c =
@@ -62,7 +62,7 @@ loop-again c =
     let l = k .before .before .before in
     let a = l .before .before .before .args in
     searching-more _ (l .loop .inv) (k .before .before .loop-test .taken)
-    (sym (permitted (k .take-codes .result) (a .m) (a .words .now) (a .operands .now) (a .results) (l .loop .code) (omega (arith, k .before .before .loop-test .taken)) (k .take-codes .ensures .0 (omega arith))) ∙ ne-eqb _ 0 (c .if1 .left))
+    (sym (permitted (k .take-codes .result) (a .m) (a .words .now) (a .operands .now) (a .results) (l .loop .code) (omega (arith, k .before .before .loop-test .taken)) (k .take-codes .ensures)) ∙ ne-eqb _ 0 (c .if1 .left))
 
 returns-2 : tie.Need-returns-2 Inv-loop μ-loop
 returns-2 c =

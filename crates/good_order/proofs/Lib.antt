@@ -1,0 +1,5 @@
+pub mod Apart
+pub mod BySlots
+pub mod Determined
+pub mod Loops
+pub mod Placed

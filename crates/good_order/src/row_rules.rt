@@ -1,0 +1,71 @@
+// Good order, a row at a time.
+use crate::slot_rules;
+use held::parts::Buffer;
+use held::parts::Register;
+use held::parts::Station;
+use held::parts::StoreBuffer;
+ghost use mathlib.Core.Path.{_≡_};
+ghost use mathlib.Core.List.{map};
+ghost use Rattle.order.specs.Binary64.{binary64};
+ghost use Rattle.held.specs.View.{viewRegister, viewBuffer, viewStation, viewStore};
+ghost use Rattle.good_order.specs.SlotRules.{placeIn, registersGood, buffersGood, stationsGood, storesGood, storesApart};
+
+pub(crate) fn registers_good(registers: [Register; 4], places: &[usize; 13]) -> bool
+    ensures { λ r. ⌜ r ≡ registersGood (placeIn (now (places .entry))) (binary64 .nought) (map viewRegister registers) ⌝ }
+{
+    for i in 0..registers.len() {
+        if !slot_rules::register_good(registers[i], places) {
+            return false;
+        }
+    }
+    true
+}
+
+pub(crate) fn buffers_good(buffers: [Buffer; 6], next: usize, operands: usize) -> bool
+    ensures { λ r. ⌜ r ≡ buffersGood next operands (map viewBuffer buffers) ⌝ }
+{
+    for i in 0..buffers.len() {
+        if !slot_rules::buffer_good(buffers[i], next, operands) {
+            return false;
+        }
+    }
+    true
+}
+
+pub(crate) fn stations_good(stations: [Station; 5], next: usize, places: &[usize; 13]) -> bool
+    ensures { λ r. ⌜ r ≡ stationsGood (placeIn (now (places .entry))) next (map viewStation stations) ⌝ }
+{
+    for i in 0..stations.len() {
+        if !slot_rules::station_good(stations[i], i, next, places) {
+            return false;
+        }
+    }
+    true
+}
+
+pub(crate) fn stores_good(
+    stores: [StoreBuffer; 3],
+    next: usize,
+    results: usize,
+    places: &[usize; 13],
+) -> bool
+    ensures { λ r. ⌜ r ≡ storesGood (placeIn (now (places .entry))) next results (map viewStore stores) ⌝ }
+{
+    for i in 0..stores.len() {
+        if !slot_rules::store_good(stores[i], next, results, places) {
+            return false;
+        }
+    }
+    true
+}
+
+pub(crate) fn stores_apart(stores: [StoreBuffer; 3]) -> bool
+    ensures { λ r. ⌜ r ≡ storesApart (map viewStore stores) ⌝ }
+{
+    if slot_rules::stores_differ(stores[0], stores[1]) {
+        if slot_rules::stores_differ(stores[0], stores[2]) {
+            return slot_rules::stores_differ(stores[1], stores[2]);
+        }
+    }
+    false
+}

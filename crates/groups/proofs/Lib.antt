@@ -1,0 +1,4 @@
+pub mod Determined
+pub mod Groups
+pub mod NumberAt
+pub mod Peel

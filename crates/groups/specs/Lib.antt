@@ -1,0 +1,2 @@
+pub mod SevenBits
+pub mod Told
