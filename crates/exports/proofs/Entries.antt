@@ -18,7 +18,7 @@ use Rattle.held.specs.declared.parts.Stepped.{Stepped}
 use Rattle.held.specs.View.{view, lent, viewStepped, viewReleased}
 use Rattle.machine.specs.Step.{StepAnswer}
 use Rattle.machine.specs.declared.advance.Progress.{Progress}
-use Rattle.exports.specs.Image.{machineIn, imageOver}
+use Rattle.images.specs.Image.{machineIn, imageOver}
 use Rattle.exports.specs.Entries.{releasedWords, StepWords, stepIn, RunWords, RunLogged, runIn}
 
 module _ {words : List ℕ} {operands : List Float} {image : List ℕ} {m : Machine} (held : view m ≡ machineIn image) where

@@ -18,8 +18,8 @@ use Rattle.order.specs.Entries as order
 use Rattle.runs.specs.Run.{Ran, run}
 use Rattle.held.specs.View.{view, lent}
 use Rattle.machine.specs.declared.advance.Progress.{Progress}
-use Rattle.exports.specs.Rows.{numberAt}
-use Rattle.exports.specs.Image.{machineIn, imageOver}
+use Rattle.images.specs.Rows.{numberAt}
+use Rattle.images.specs.Image.{machineIn, imageOver}
 
 abbrev pub recordWords : Released Float → List ℕ
 recordWords r = r .place ∷ r .cell ∷ patternOf (r .number) ∷ []

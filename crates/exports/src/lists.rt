@@ -1,5 +1,5 @@
 // List files.
-use crate::row::put_words;
+use images::row::put_words;
 ghost use mathlib.Core.Path.{_≡_};
 ghost use mathlib.Core.List.{[], _∷_};
 ghost use lib.Seq.{sets};

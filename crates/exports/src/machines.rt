@@ -1,12 +1,12 @@
 // The entries on a machine that take no schedule, and the one-at-a-time run.
-use crate::image::machine_in;
-use crate::row::number_at;
-use crate::row::put_number;
-use crate::row::put_words;
-use crate::spelling::put_machine;
-use crate::spelling::put_taken;
 use held::parts::Record;
 use held::parts::Released;
+use images::image::machine_in;
+use images::row::number_at;
+use images::row::put_number;
+use images::row::put_words;
+use images::spelling::put_machine;
+use images::spelling::put_taken;
 use machine::lowest::Lowest;
 use words::refusal;
 ghost use mathlib.Core.Path.{_≡_};
@@ -19,7 +19,7 @@ ghost use Rattle.order.specs.GoodOrder.{drained};
 ghost use Rattle.order.specs.Entries.{fresh, stepsLeft, lowestStep};
 ghost use Rattle.held.specs.View.{lent, viewRecord, viewReleased};
 ghost use Rattle.machine.specs.Lowest.{viewLowest};
-ghost use Rattle.exports.specs.Image.{machineIn, imageOver};
+ghost use Rattle.images.specs.Image.{machineIn, imageOver};
 ghost use Rattle.exports.specs.Entries.{recordWords, releasedWords, lowestWords, startsIn, StepWords, stepIn, aloneIn};
 
 pub(crate) fn record_words(made: Record) -> [u64; 3]

@@ -1,16 +1,16 @@
 // The run of a schedule, its log a row of words: three to a record.
-use crate::image::machine_in;
 use crate::machines::record_words;
-use crate::row::put_words;
-use crate::spelling::put_taken;
 use held::parts::Machine;
+use images::image::machine_in;
+use images::row::put_words;
+use images::spelling::put_taken;
 use machine::advance::Progress;
 use machine::advance::Stop;
 use machine::advance::advance;
 use machine::advance::begun;
 ghost use mathlib.Core.Path.{_≡_};
 ghost use Rattle.held.specs.View.{view};
-ghost use Rattle.exports.specs.Image.{machineIn};
+ghost use Rattle.images.specs.Image.{machineIn};
 ghost use Rattle.exports.specs.Entries.{RunWords, RunLogged, runIn, roomIn};
 ghost use Rattle.exports.specs.Logging.{loggedStop};
 

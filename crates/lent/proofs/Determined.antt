@@ -9,23 +9,9 @@ use Rattle.held.specs.declared.parts.Machine.{Machine}
 use Rattle.held.specs.declared.parts.Record.{Record}
 use Rattle.held.proofs.Exact.{view-exact, records-exact}
 use Rattle.machine.specs.declared.advance.Progress.{Progress}
-use Rattle.lent.specs.InPlace.{InPlace}
 use Rattle.lent.specs.Run.{RunAnswer}
-use Rattle.lent.proofs.in_place.step_by_place.Kinds as step-by-place-kinds
-use Rattle.lent.proofs.in_place.step_by_place.Reads as step-by-place-reads
 use Rattle.lent.proofs.run.run_logged.Kinds as run-logged-kinds
 use Rattle.lent.proofs.run.run_logged.Reads as run-logged-reads
-
--- of `step_in_place`, whose contract is this record: the number answered, the machine and the cells as it returns
-pub step-in-place-determined : (words : List ℕ) (operands : List Float) (m : Machine) (cells : List Float) (code : ℕ) (x y : ℕ) (m₁ m₂ : Machine) (cells₁ cells₂ : List Float)
-    → InPlace words operands m cells code x m₁ cells₁ → InPlace words operands m cells code y m₂ cells₂ → (x ≡ y) × (m₁ ≡ m₂) × (cells₁ ≡ cells₂)
-step-in-place-determined words operands m cells code x y m₁ m₂ cells₁ cells₂ p q =
-    (one-answer (p .answered) (q .answered), view-exact m₁ m₂ (one-answer (p .altered) (q .altered)), one-answer (p .after) (q .after))
-
-pub step-by-place-determined : DeterminesLent 3 step-by-place-kinds.ps step-by-place-kinds.r step-by-place-reads.Post (λ κs s. now (s .1 .1 .1 .0))
-step-by-place-determined κs a x y s t p q =
-    let e = step-in-place-determined _ _ _ _ _ (x .refusal) (y .refusal) (x .machine) (y .machine) _ _ p q in
-    ((λ i. record { machine = e .1 i; refusal = e .0 i }), e .2)
 
 -- of `run_schedule`, whose contract is this record: the answer, the cells and the log as it returns
 pub run-schedule-determined : (words : List ℕ) (operands : List Float) (m : Machine) (cells : List Float) (schedule : List ℕ) (log : List Record) (x y : Progress) (cells₁ cells₂ : List Float) (log₁ log₂ : List Record)

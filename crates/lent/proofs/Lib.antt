@@ -2,7 +2,6 @@ pub mod Again
 pub mod Answers
 pub mod Determined
 pub mod Kit
-pub mod Placing
 pub mod Onward
 pub mod RanLaws
 pub mod Shaped

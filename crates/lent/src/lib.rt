@@ -1,3 +1,2 @@
-// The caller's own machine, altered where it stands (01, "Steps"), and the same by value for covered callers.
-pub mod in_place;
+// The run of a schedule over a lent log of records (01, "a lent row of records"), and the same by value for covered callers.
 pub mod run;

@@ -90,16 +90,17 @@ pub fn take_codes(
                         n.buffers[b] = made::fetching(next, cell);
                         n.next = next + 1;
                     }
-                    Change::Copies(r, x) => {
-                        let other = n.registers[x];
-                        n.registers[r] = other;
+                    Change::Copies(r1, r2) => {
+                        let other = n.registers[r2];
+                        n.registers[r1] = other;
                         n.next = next + 1;
                     }
-                    Change::TakesRegister(o, r, x, u) => {
-                        let sink = n.registers[r];
-                        let source = n.registers[x];
+                    Change::TakesRegister(o, r1, r2, u) => {
+                        let sink = n.registers[r1];
+                        let source = n.registers[r2];
+                        let waits = made::waiting_register(Tag::of_station(u));
                         n.stations[u] = made::holding(next, o, sink, source);
-                        n.registers[r] = made::waiting_register(Tag::of_station(u));
+                        n.registers[r1] = waits;
                         n.next = next + 1;
                     }
                     Change::Stores(r, cell, t) => {

@@ -3,6 +3,7 @@ pub mod Determined
 pub mod Fields
 pub mod First
 pub mod Known
+pub mod Operands
 pub mod Passes
 pub mod Registers
 pub mod Table

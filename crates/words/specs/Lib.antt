@@ -1,2 +1,3 @@
 pub mod Instructions
 pub mod Check
+pub mod Operands

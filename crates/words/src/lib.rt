@@ -2,7 +2,9 @@
 use numbers::Operation;
 ghost use mathlib.Core.Path.{_≡_};
 ghost use Rattle.words.specs.Instructions.{operationField, r1Field, operandField, formOf};
-ghost use Rattle.words.specs.Check.{operationRefusal, registerRefusal, cellRefusal, operandRefusal, wordRefusal, listCheck, listCheckAlone};
+ghost use mathlib.Core.Bool.{cond};
+ghost use Rattle.words.specs.Operands.{isKnown, takesRegister, isStore};
+ghost use Rattle.words.specs.Check.{operationRefusal, registerRefusal, operandRefusal, wordRefusal, listCheck, listCheckAlone};
 
 pub mod refusal;
 
@@ -10,6 +12,9 @@ pub mod refusal;
 pub const LIST_LIMIT: usize = 4096;
 // 01: "Cells are 0 to 255."
 pub const CELL_LIMIT: usize = 256;
+
+// Below it the even numbers are the registers.
+const REGISTER_LIMIT: usize = 8;
 
 // What a word asks for, by its operation's number.
 pub enum Form {
@@ -86,31 +91,78 @@ pub fn register_refusal(register: u32) -> u32
     }
 }
 
-fn cell_refusal(cell: u32, area: usize) -> u32
-    ensures { λ r. ⌜ r ≡ cellRefusal area cell ⌝ }
+fn is_known(form: Form) -> bool
+    ensures { λ r. ⌜ r ≡ isKnown form ⌝ }
 {
-    let at = cell as usize;
-    if CELL_LIMIT <= at {
-        return refusal::CELL;
+    match form {
+        Form::Unknown => false,
+        Form::LD => true,
+        Form::LDR => true,
+        Form::CellArithmetic(_) => true,
+        Form::RegisterArithmetic(_) => true,
+        Form::STD => true,
     }
-    if area <= at {
-        return refusal::CELL;
-    }
-    refusal::ACCEPTED
 }
 
-// The operand's own refusal, against areas of so many operand and result cells.
+fn takes_register(form: Form) -> bool
+    ensures { λ r. ⌜ r ≡ takesRegister form ⌝ }
+{
+    match form {
+        Form::Unknown => false,
+        Form::LD => false,
+        Form::LDR => true,
+        Form::CellArithmetic(_) => false,
+        Form::RegisterArithmetic(_) => true,
+        Form::STD => false,
+    }
+}
+
+fn is_store(form: Form) -> bool
+    ensures { λ r. ⌜ r ≡ isStore form ⌝ }
+{
+    match form {
+        Form::Unknown => false,
+        Form::LD => false,
+        Form::LDR => false,
+        Form::CellArithmetic(_) => false,
+        Form::RegisterArithmetic(_) => false,
+        Form::STD => true,
+    }
+}
+
+fn chosen(test: bool, yes: usize, no: usize) -> usize
+    ensures { λ r. ⌜ r ≡ cond test yes no ⌝ }
+{
+    if test {
+        return yes;
+    }
+    no
+}
+
+// The operand's own refusal, against areas of so many operand and result cells. What the operand is held to is chosen first, and then tested in one
+// way: a branch on the kind of operand would be mispredicted at every other word of a mixed list.
 pub fn operand_refusal(form: Form, operand: u32, operands: usize, results: usize) -> u32
     ensures { λ r. ⌜ r ≡ operandRefusal operands results form operand ⌝ }
 {
-    match form {
-        Form::Unknown => refusal::ACCEPTED,
-        Form::LD => cell_refusal(operand, operands),
-        Form::LDR => register_refusal(operand),
-        Form::CellArithmetic(_) => cell_refusal(operand, operands),
-        Form::RegisterArithmetic(_) => register_refusal(operand),
-        Form::STD => cell_refusal(operand, results),
+    if !is_known(form) {
+        return refusal::ACCEPTED;
     }
+    let at = operand as usize;
+    let register = takes_register(form);
+    let area = chosen(is_store(form), results, operands);
+    let limit = chosen(register, REGISTER_LIMIT, area);
+    let odd = chosen(register, 1, 0);
+    let number = chosen(register, refusal::REGISTER as usize, refusal::CELL as usize) as u32;
+    if limit <= at {
+        return number;
+    }
+    if CELL_LIMIT <= at {
+        return number;
+    }
+    if at & odd != 0 {
+        return number;
+    }
+    refusal::ACCEPTED
 }
 
 // Inside a word 2, then R1's 3, then the operand's 3 or 4.

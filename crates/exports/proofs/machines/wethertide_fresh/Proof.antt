@@ -3,7 +3,7 @@ use mathlib.Core.Path.{ap, _∙_}
 use lib.Ieee.{Float}
 use denote.Ref.{now}
 use Rattle.order.specs.Entries.{Fresh}
-use Rattle.exports.specs.Image.{imageOver}
+use Rattle.images.specs.Image.{imageOver}
 use Rattle.exports.proofs.machines.wethertide_fresh.Statement.{statement}
 use Rattle.exports.proofs.machines.wethertide_fresh.Tie as tie
 

@@ -43,7 +43,8 @@ use denote.Triple.Table.{entered}
 use denote.Triple.Walked.{says, Stays, stay-slice, stay-dropped, walkOf, AllGo, goes-slice, goes-dropped, Walks, ends-at, walked, walk-meets}
 use denote.Exit.{yes}
 use Rattle.held.specs.declared.parts.Record.{Record}
-use Rattle.lent.proofs.Kit.{envAt, set-past}
+use lib.Seq.{set-out}
+use Rattle.lent.proofs.Kit.{envAt}
 use Rattle.held.proofs.parts.Record as T
 use Rattle.held.proofs.parts.Record.Laws as T′
 use Rattle.lent.proofs.run.put_record.Key.{name as #put-record}
@@ -131,7 +132,7 @@ module _ {M : Type 1} (𝓤 : URA M) (H : Heap 𝓤) (A : Atoms 𝓤) (W : Given
         assigns ! (of-opd ! (load ! (from ! (stop !)) (look ! 7 refl))) (from ! (stop !)) (init ! 19 refl (tt, tt)) $
         returns ! (look ! 19 refl) $ forget ! 7 refl $ forget ! 9 refl $ forget ! 11 refl $ forget ! 13 refl $ forget ! 15 refl $ forget ! 17 refl $ forget ! 19 refl $
         move ! (19 ∷ 20 ∷ []) $ free1 ! $ move ! (17 ∷ 18 ∷ []) $ free1 ! $ move ! (15 ∷ 16 ∷ []) $ free1 ! $ move ! (13 ∷ 14 ∷ []) $ free1 ! $ move ! (11 ∷ 12 ∷ []) $ free1 ! $ move ! (9 ∷ 10 ∷ []) $ free1 ! $ move ! (7 ∷ 8 ∷ []) $ free1 ! $ move ! (5 ∷ 6 ∷ []) $ free1 ! $ move ! (3 ∷ 4 ∷ []) $ free1 ! $ free0 ! $
-        keep ! (0 ∷ 1 ∷ 2 ∷ []) $ by ! (exits false ys (sym (le-ltb n (length ys) (nltb→le n (length ys) z)), sym (set-past ys n r (nltb→le n (length ys) z))) refl)))))))))))
+        keep ! (0 ∷ 1 ∷ 2 ∷ []) $ by ! (exits false ys (sym (le-ltb n (length ys) (nltb→le n (length ys) z)), sym (set-out ys n r (nltb→le n (length ys) z))) refl)))))))))))
 
 module _ {M : Type 1} (𝓤 : URA M) (H : Heap 𝓤) (A : Atoms 𝓤) (W : Given 𝓤 H A) (at-mem : Memory → SProp 𝓤) (run : Routine → Fun 𝓤) where
   f-walks : (C : Calls 𝓤 H) (Λ : Loops 𝓤 H) → Walks 𝓤 H A f.ended stayed (WpFn 𝓤 H C Λ code.function) (f.clauses 𝓤 H A at-mem run)

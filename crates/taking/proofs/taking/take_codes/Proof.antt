@@ -82,7 +82,7 @@ loop-less-4 : tie.Need-loop-less-4 Inv-loop2 μ-loop2 Inv-loop3 μ-loop3 Inv-loo
 loop-less-4 c = omega (arith, onward (c .before .before .before .before .before .before .before .before .before .before))
 
 loop-again-4 : tie.Need-loop-again-4 Inv-loop2 μ-loop2 Inv-loop3 μ-loop3 Inv-loop4 μ-loop4 Inv-loop μ-loop
-loop-again-4 c = on (c .before .before .before .before .before .before .before .before) (takes-register (known (c .before .before .before .before .before .before .before .before)) (c .before .before .before .before .before .before .change5 .given .1) (four (c .before .before .before .before .before .before .before .before)) (is-within (known (c .before .before .before .before .before .before .before .before)) (c .before .before .before .before .before .before .change5 .given .1) .0) (is-within (known (c .before .before .before .before .before .before .before .before)) (c .before .before .before .before .before .before .change5 .given .1) .1) (c .before .before .holding2 .result) (c .before .before .holding2 .ensures) (c .waiting-register4 .result) (c .waiting-register4 .ensures ∙ ap tag (station-tagged (is-within (known (c .before .before .before .before .before .before .before .before)) (c .before .before .before .before .before .before .change5 .given .1) .2) (c .before .of-station2 .ensures))))
+loop-again-4 c = on (c .before .before .before .before .before .before .before .before) (takes-register (known (c .before .before .before .before .before .before .before .before)) (c .before .before .before .before .before .before .change5 .given .1) (four (c .before .before .before .before .before .before .before .before)) (is-within (known (c .before .before .before .before .before .before .before .before)) (c .before .before .before .before .before .before .change5 .given .1) .0) (is-within (known (c .before .before .before .before .before .before .before .before)) (c .before .before .before .before .before .before .change5 .given .1) .1) (c .holding2 .result) (c .holding2 .ensures) (c .before .waiting-register4 .result) (c .before .waiting-register4 .ensures ∙ ap tag (station-tagged (is-within (known (c .before .before .before .before .before .before .before .before)) (c .before .before .before .before .before .before .change5 .given .1) .2) (c .before .before .of-station2 .ensures))))
 
 loop-less-5 : tie.Need-loop-less-5 Inv-loop2 μ-loop2 Inv-loop3 μ-loop3 Inv-loop4 μ-loop4 Inv-loop μ-loop
 loop-less-5 c = omega (arith, onward (c .before .before .before .before .before .before .before))
@@ -168,10 +168,10 @@ take-codes-spec =
     (λ c. search needs)
     (λ c κs. search needs)
     (λ c κs. search needs)
-    bounds.mul-t92
+    bounds.mul-t93
     bounds.element-set-from-n
     (λ c κs. search needs)
-    bounds.mul-t92-2
+    bounds.mul-t93-2
     bounds.element-set-from-n-2
     bounds.add-n
     (λ c. search needs)
@@ -180,14 +180,14 @@ take-codes-spec =
     (λ c κs. search needs)
     (λ c κs. search needs)
     (λ c κs. search needs)
-    bounds.mul-t98
+    bounds.mul-t99
     bounds.element-set-from-n-3
     (λ c κs. search needs)
     (λ c κs. search needs)
-    bounds.mul-t98-2
+    bounds.mul-t99-2
     bounds.element-set-from-n-4
     (λ c κs. search needs)
-    bounds.mul-t98-3
+    bounds.mul-t99-3
     bounds.element-set-from-n-5
     bounds.add-n-2
     (λ c. search needs)
@@ -201,39 +201,39 @@ take-codes-spec =
     bounds.element-copy-out-sink-2
     bounds.mul-source
     bounds.element-copy-out-source
+    bounds.of-station-requires-2
+    bounds.waiting-register-requires-4
     (λ c κs. search needs)
-    bounds.mul-t117
+    bounds.mul-t118
     bounds.element-set-from-n-6
-    (λ c κs. search needs)
-    (λ c κs. search needs)
-    bounds.mul-t117-2
-    bounds.element-set-from-n-7
+    bounds.mul-waits
+    bounds.element-set-from-waits
     bounds.add-n-4
     (λ c. search needs)
     bounds.mul-operand
     bounds.element-copy-out-operand
     (λ c κs. search needs)
-    bounds.mul-t129
-    bounds.element-set-from-n-8
+    bounds.mul-t130
+    bounds.element-set-from-n-7
     bounds.add-n-5
     (λ c. search needs)
     (λ c κs. search needs)
-    bounds.mul-t137
+    bounds.mul-t138
+    bounds.element-set-from-n-8
+    (λ c. search needs)
+    (λ c κs. search needs)
+    bounds.mul-t142
     bounds.element-set-from-n-9
     (λ c. search needs)
     (λ c κs. search needs)
-    bounds.mul-t141
-    bounds.element-set-from-n-10
+    bounds.sub-t147
     (λ c. search needs)
+    (λ c. search needs)
+    bounds.element-set-from-n-10
     (λ c κs. search needs)
-    bounds.sub-t146
     (λ c. search needs)
     (λ c. search needs)
     bounds.element-set-from-n-11
-    (λ c κs. search needs)
-    (λ c. search needs)
-    (λ c. search needs)
-    bounds.element-set-from-n-12
     loop2-holds
     (λ c. search needs)
     (λ c. search needs)
@@ -275,8 +275,8 @@ take-codes-spec =
     loop4-again-2
     (λ c. search needs)
     (λ c κs. search needs)
-    bounds.mul-t183
-    bounds.element-set-from-n-16
+    bounds.mul-t184
+    bounds.element-set-from-n-15
     loop-less
     loop-again
     loop-less-2

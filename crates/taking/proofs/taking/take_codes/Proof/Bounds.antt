@@ -1,5 +1,6 @@
 -- `take_codes` is safe: each slot that is read or stored lies in its row, each sum fits, and each callee has what it asks for.
 use native.Mathlib.Omega.{arith}
+use borrow.Author.Needs.{needs}
 use Rattle.slots.proofs.Codes.{in-row}
 use Rattle.taking.proofs.Arms.{is-within, is-growing, low-tag, high-tag, names}
 use Rattle.taking.proofs.taking.take_codes.Tie as tie
@@ -50,14 +51,14 @@ element-copy-out-release c = in-row (c .before .before .before .step-of .ensures
 pub release-requires : tie.Need-release-requires Inv-loop2 μ-loop2 Inv-loop3 μ-loop3 Inv-loop4 μ-loop4 Inv-loop μ-loop
 release-requires c κs = in-row (c .before .before .before .before .step-of .ensures) (c .before .before .t .given .1)
 
-pub mul-t92 : tie.Need-mul-t92 Inv-loop2 μ-loop2 Inv-loop3 μ-loop3 Inv-loop4 μ-loop4 Inv-loop μ-loop
-mul-t92 c = omega (arith, is-within (known (c .before .before .before .before .before)) (c .before .before .before .change2 .given .1) .0)
+pub mul-t93 : tie.Need-mul-t93 Inv-loop2 μ-loop2 Inv-loop3 μ-loop3 Inv-loop4 μ-loop4 Inv-loop μ-loop
+mul-t93 c = omega (arith, is-within (known (c .before .before .before .before .before)) (c .before .before .before .change2 .given .1) .0)
 
 pub element-set-from-n : tie.Need-element-set-from-n Inv-loop2 μ-loop2 Inv-loop3 μ-loop3 Inv-loop4 μ-loop4 Inv-loop μ-loop
 element-set-from-n c = is-within (known (c .before .before .before .before .before)) (c .before .before .before .change2 .given .1) .0
 
-pub mul-t92-2 : tie.Need-mul-t92-2 Inv-loop2 μ-loop2 Inv-loop3 μ-loop3 Inv-loop4 μ-loop4 Inv-loop μ-loop
-mul-t92-2 c = omega (arith, is-within (known (c .before .before .before .before .before .before)) (c .before .before .before .before .change2 .given .1) .1)
+pub mul-t93-2 : tie.Need-mul-t93-2 Inv-loop2 μ-loop2 Inv-loop3 μ-loop3 Inv-loop4 μ-loop4 Inv-loop μ-loop
+mul-t93-2 c = omega (arith, is-within (known (c .before .before .before .before .before .before)) (c .before .before .before .before .change2 .given .1) .1)
 
 pub element-set-from-n-2 : tie.Need-element-set-from-n-2 Inv-loop2 μ-loop2 Inv-loop3 μ-loop3 Inv-loop4 μ-loop4 Inv-loop μ-loop
 element-set-from-n-2 c = is-within (known (c .before .before .before .before .before .before)) (c .before .before .before .before .change2 .given .1) .1
@@ -71,20 +72,20 @@ mul-sink c = omega (arith, is-within (known (c .before .before .before)) (c .bef
 pub element-copy-out-sink : tie.Need-element-copy-out-sink Inv-loop2 μ-loop2 Inv-loop3 μ-loop3 Inv-loop4 μ-loop4 Inv-loop μ-loop
 element-copy-out-sink c = is-within (known (c .before .before .before)) (c .before .change3 .given .1) .0
 
-pub mul-t98 : tie.Need-mul-t98 Inv-loop2 μ-loop2 Inv-loop3 μ-loop3 Inv-loop4 μ-loop4 Inv-loop μ-loop
-mul-t98 c = omega (arith, is-within (known (c .before .before .before .before .before .before .before)) (c .before .before .before .before .before .change3 .given .1) .2)
+pub mul-t99 : tie.Need-mul-t99 Inv-loop2 μ-loop2 Inv-loop3 μ-loop3 Inv-loop4 μ-loop4 Inv-loop μ-loop
+mul-t99 c = omega (arith, is-within (known (c .before .before .before .before .before .before .before)) (c .before .before .before .before .before .change3 .given .1) .2)
 
 pub element-set-from-n-3 : tie.Need-element-set-from-n-3 Inv-loop2 μ-loop2 Inv-loop3 μ-loop3 Inv-loop4 μ-loop4 Inv-loop μ-loop
 element-set-from-n-3 c = is-within (known (c .before .before .before .before .before .before .before)) (c .before .before .before .before .before .change3 .given .1) .2
 
-pub mul-t98-2 : tie.Need-mul-t98-2 Inv-loop2 μ-loop2 Inv-loop3 μ-loop3 Inv-loop4 μ-loop4 Inv-loop μ-loop
-mul-t98-2 c = omega (arith, is-within (known (c .before .before .before .before .before .before .before .before .before)) (c .before .before .before .before .before .before .before .change3 .given .1) .0)
+pub mul-t99-2 : tie.Need-mul-t99-2 Inv-loop2 μ-loop2 Inv-loop3 μ-loop3 Inv-loop4 μ-loop4 Inv-loop μ-loop
+mul-t99-2 c = omega (arith, is-within (known (c .before .before .before .before .before .before .before .before .before)) (c .before .before .before .before .before .before .before .change3 .given .1) .0)
 
 pub element-set-from-n-4 : tie.Need-element-set-from-n-4 Inv-loop2 μ-loop2 Inv-loop3 μ-loop3 Inv-loop4 μ-loop4 Inv-loop μ-loop
 element-set-from-n-4 c = is-within (known (c .before .before .before .before .before .before .before .before .before)) (c .before .before .before .before .before .before .before .change3 .given .1) .0
 
-pub mul-t98-3 : tie.Need-mul-t98-3 Inv-loop2 μ-loop2 Inv-loop3 μ-loop3 Inv-loop4 μ-loop4 Inv-loop μ-loop
-mul-t98-3 c = omega (arith, is-within (known (c .before .before .before .before .before .before .before .before .before .before)) (c .before .before .before .before .before .before .before .before .change3 .given .1) .1)
+pub mul-t99-3 : tie.Need-mul-t99-3 Inv-loop2 μ-loop2 Inv-loop3 μ-loop3 Inv-loop4 μ-loop4 Inv-loop μ-loop
+mul-t99-3 c = omega (arith, is-within (known (c .before .before .before .before .before .before .before .before .before .before)) (c .before .before .before .before .before .before .before .before .change3 .given .1) .1)
 
 pub element-set-from-n-5 : tie.Need-element-set-from-n-5 Inv-loop2 μ-loop2 Inv-loop3 μ-loop3 Inv-loop4 μ-loop4 Inv-loop μ-loop
 element-set-from-n-5 c = is-within (known (c .before .before .before .before .before .before .before .before .before .before)) (c .before .before .before .before .before .before .before .before .change3 .given .1) .1
@@ -119,17 +120,23 @@ mul-source c = omega (arith, is-within (known (c .before .before .before .before
 pub element-copy-out-source : tie.Need-element-copy-out-source Inv-loop2 μ-loop2 Inv-loop3 μ-loop3 Inv-loop4 μ-loop4 Inv-loop μ-loop
 element-copy-out-source c = is-within (known (c .before .before .before .before)) (c .before .before .change5 .given .1) .1
 
-pub mul-t117 : tie.Need-mul-t117 Inv-loop2 μ-loop2 Inv-loop3 μ-loop3 Inv-loop4 μ-loop4 Inv-loop μ-loop
-mul-t117 c = omega (arith, is-within (known (c .before .before .before .before .before .before)) (c .before .before .before .before .change5 .given .1) .2)
+pub mul-t118 : tie.Need-mul-t118 Inv-loop2 μ-loop2 Inv-loop3 μ-loop3 Inv-loop4 μ-loop4 Inv-loop μ-loop
+mul-t118 c = omega (arith, is-within (known (c .before .before .before .before .before .before .before .before)) (c .before .before .before .before .before .before .change5 .given .1) .2)
 
 pub element-set-from-n-6 : tie.Need-element-set-from-n-6 Inv-loop2 μ-loop2 Inv-loop3 μ-loop3 Inv-loop4 μ-loop4 Inv-loop μ-loop
-element-set-from-n-6 c = is-within (known (c .before .before .before .before .before .before)) (c .before .before .before .before .change5 .given .1) .2
+element-set-from-n-6 c = is-within (known (c .before .before .before .before .before .before .before .before)) (c .before .before .before .before .before .before .change5 .given .1) .2
 
-pub mul-t117-2 : tie.Need-mul-t117-2 Inv-loop2 μ-loop2 Inv-loop3 μ-loop3 Inv-loop4 μ-loop4 Inv-loop μ-loop
-mul-t117-2 c = omega (arith, is-within (known (c .before .before .before .before .before .before .before .before)) (c .before .before .before .before .before .before .change5 .given .1) .0)
+pub of-station-requires-2 : tie.Need-of-station-requires-2 Inv-loop2 μ-loop2 Inv-loop3 μ-loop3 Inv-loop4 μ-loop4 Inv-loop μ-loop
+of-station-requires-2 c κs = search needs
 
-pub element-set-from-n-7 : tie.Need-element-set-from-n-7 Inv-loop2 μ-loop2 Inv-loop3 μ-loop3 Inv-loop4 μ-loop4 Inv-loop μ-loop
-element-set-from-n-7 c = is-within (known (c .before .before .before .before .before .before .before .before)) (c .before .before .before .before .before .before .change5 .given .1) .0
+pub waiting-register-requires-4 : tie.Need-waiting-register-requires-4 Inv-loop2 μ-loop2 Inv-loop3 μ-loop3 Inv-loop4 μ-loop4 Inv-loop μ-loop
+waiting-register-requires-4 c κs = search needs
+
+pub mul-waits : tie.Need-mul-waits Inv-loop2 μ-loop2 Inv-loop3 μ-loop3 Inv-loop4 μ-loop4 Inv-loop μ-loop
+mul-waits c = omega (arith, is-within (known (c .before .before .before .before .before .before .before .before)) (c .before .before .before .before .before .before .change5 .given .1) .0)
+
+pub element-set-from-waits : tie.Need-element-set-from-waits Inv-loop2 μ-loop2 Inv-loop3 μ-loop3 Inv-loop4 μ-loop4 Inv-loop μ-loop
+element-set-from-waits c = is-within (known (c .before .before .before .before .before .before .before .before)) (c .before .before .before .before .before .before .change5 .given .1) .0
 
 pub add-n-4 : tie.Need-add-n-4 Inv-loop2 μ-loop2 Inv-loop3 μ-loop3 Inv-loop4 μ-loop4 Inv-loop μ-loop
 add-n-4 c = omega (arith, is-growing (known (c .before .before .before .before .before .before .before .before)) (c .before .before .before .before .before .before .change5 .given .1) tt, c .before .before .before .before .before .before .before .before .before .before .before .before .before .before .before .before .before .before .before .good .1 .0 .0)
@@ -140,38 +147,38 @@ mul-operand c = omega (arith, is-within (known (c .before .before .before)) (c .
 pub element-copy-out-operand : tie.Need-element-copy-out-operand Inv-loop2 μ-loop2 Inv-loop3 μ-loop3 Inv-loop4 μ-loop4 Inv-loop μ-loop
 element-copy-out-operand c = is-within (known (c .before .before .before)) (c .before .change6 .given .1) .0
 
-pub mul-t129 : tie.Need-mul-t129 Inv-loop2 μ-loop2 Inv-loop3 μ-loop3 Inv-loop4 μ-loop4 Inv-loop μ-loop
-mul-t129 c = omega (arith, is-within (known (c .before .before .before .before .before)) (c .before .before .before .change6 .given .1) .1)
+pub mul-t130 : tie.Need-mul-t130 Inv-loop2 μ-loop2 Inv-loop3 μ-loop3 Inv-loop4 μ-loop4 Inv-loop μ-loop
+mul-t130 c = omega (arith, is-within (known (c .before .before .before .before .before)) (c .before .before .before .change6 .given .1) .1)
 
-pub element-set-from-n-8 : tie.Need-element-set-from-n-8 Inv-loop2 μ-loop2 Inv-loop3 μ-loop3 Inv-loop4 μ-loop4 Inv-loop μ-loop
-element-set-from-n-8 c = is-within (known (c .before .before .before .before .before)) (c .before .before .before .change6 .given .1) .1
+pub element-set-from-n-7 : tie.Need-element-set-from-n-7 Inv-loop2 μ-loop2 Inv-loop3 μ-loop3 Inv-loop4 μ-loop4 Inv-loop μ-loop
+element-set-from-n-7 c = is-within (known (c .before .before .before .before .before)) (c .before .before .before .change6 .given .1) .1
 
 pub add-n-5 : tie.Need-add-n-5 Inv-loop2 μ-loop2 Inv-loop3 μ-loop3 Inv-loop4 μ-loop4 Inv-loop μ-loop
 add-n-5 c = omega (arith, is-growing (known (c .before .before .before .before .before)) (c .before .before .before .change6 .given .1) tt)
 
-pub mul-t137 : tie.Need-mul-t137 Inv-loop2 μ-loop2 Inv-loop3 μ-loop3 Inv-loop4 μ-loop4 Inv-loop μ-loop
-mul-t137 c = omega (arith, is-within (known (c .before .before .before .before)) (c .before .before .change7 .given .1))
+pub mul-t138 : tie.Need-mul-t138 Inv-loop2 μ-loop2 Inv-loop3 μ-loop3 Inv-loop4 μ-loop4 Inv-loop μ-loop
+mul-t138 c = omega (arith, is-within (known (c .before .before .before .before)) (c .before .before .change7 .given .1))
+
+pub element-set-from-n-8 : tie.Need-element-set-from-n-8 Inv-loop2 μ-loop2 Inv-loop3 μ-loop3 Inv-loop4 μ-loop4 Inv-loop μ-loop
+element-set-from-n-8 c = is-within (known (c .before .before .before .before)) (c .before .before .change7 .given .1)
+
+pub mul-t142 : tie.Need-mul-t142 Inv-loop2 μ-loop2 Inv-loop3 μ-loop3 Inv-loop4 μ-loop4 Inv-loop μ-loop
+mul-t142 c = omega (arith, is-within (known (c .before .before .before .before)) (c .before .before .change8 .given .1))
 
 pub element-set-from-n-9 : tie.Need-element-set-from-n-9 Inv-loop2 μ-loop2 Inv-loop3 μ-loop3 Inv-loop4 μ-loop4 Inv-loop μ-loop
-element-set-from-n-9 c = is-within (known (c .before .before .before .before)) (c .before .before .change7 .given .1)
+element-set-from-n-9 c = is-within (known (c .before .before .before .before)) (c .before .before .change8 .given .1)
 
-pub mul-t141 : tie.Need-mul-t141 Inv-loop2 μ-loop2 Inv-loop3 μ-loop3 Inv-loop4 μ-loop4 Inv-loop μ-loop
-mul-t141 c = omega (arith, is-within (known (c .before .before .before .before)) (c .before .before .change8 .given .1))
+pub sub-t147 : tie.Need-sub-t147 Inv-loop2 μ-loop2 Inv-loop3 μ-loop3 Inv-loop4 μ-loop4 Inv-loop μ-loop
+sub-t147 c = omega (arith, low-tag _ (names (known (c .before .before .before .before .before)) (c .before .before .before .change9 .given .1)) (c .before .if1 .taken) .0)
 
 pub element-set-from-n-10 : tie.Need-element-set-from-n-10 Inv-loop2 μ-loop2 Inv-loop3 μ-loop3 Inv-loop4 μ-loop4 Inv-loop μ-loop
-element-set-from-n-10 c = is-within (known (c .before .before .before .before)) (c .before .before .change8 .given .1)
-
-pub sub-t146 : tie.Need-sub-t146 Inv-loop2 μ-loop2 Inv-loop3 μ-loop3 Inv-loop4 μ-loop4 Inv-loop μ-loop
-sub-t146 c = omega (arith, low-tag _ (names (known (c .before .before .before .before .before)) (c .before .before .before .change9 .given .1)) (c .before .if1 .taken) .0)
+element-set-from-n-10 c = omega (arith, low-tag _ (names (known (c .before .before .before .before .before)) (c .before .before .before .change9 .given .1)) (c .before .if1 .taken) .0, low-tag _ (names (known (c .before .before .before .before .before)) (c .before .before .before .change9 .given .1)) (c .before .if1 .taken) .1)
 
 pub element-set-from-n-11 : tie.Need-element-set-from-n-11 Inv-loop2 μ-loop2 Inv-loop3 μ-loop3 Inv-loop4 μ-loop4 Inv-loop μ-loop
-element-set-from-n-11 c = omega (arith, low-tag _ (names (known (c .before .before .before .before .before)) (c .before .before .before .change9 .given .1)) (c .before .if1 .taken) .0, low-tag _ (names (known (c .before .before .before .before .before)) (c .before .before .before .change9 .given .1)) (c .before .if1 .taken) .1)
+element-set-from-n-11 c = omega (arith, high-tag _ (names (known (c .before .before .before .before .before)) (c .before .before .before .change9 .given .1)) (c .before .if1 .left))
 
-pub element-set-from-n-12 : tie.Need-element-set-from-n-12 Inv-loop2 μ-loop2 Inv-loop3 μ-loop3 Inv-loop4 μ-loop4 Inv-loop μ-loop
-element-set-from-n-12 c = omega (arith, high-tag _ (names (known (c .before .before .before .before .before)) (c .before .before .before .change9 .given .1)) (c .before .if1 .left))
+pub mul-t184 : tie.Need-mul-t184 Inv-loop2 μ-loop2 Inv-loop3 μ-loop3 Inv-loop4 μ-loop4 Inv-loop μ-loop
+mul-t184 c = omega (arith, is-within (known (c .before .before .before .before .before)) (c .before .before .before .change10 .given .1))
 
-pub mul-t183 : tie.Need-mul-t183 Inv-loop2 μ-loop2 Inv-loop3 μ-loop3 Inv-loop4 μ-loop4 Inv-loop μ-loop
-mul-t183 c = omega (arith, is-within (known (c .before .before .before .before .before)) (c .before .before .before .change10 .given .1))
-
-pub element-set-from-n-16 : tie.Need-element-set-from-n-16 Inv-loop2 μ-loop2 Inv-loop3 μ-loop3 Inv-loop4 μ-loop4 Inv-loop μ-loop
-element-set-from-n-16 c = is-within (known (c .before .before .before .before .before)) (c .before .before .before .change10 .given .1)
+pub element-set-from-n-15 : tie.Need-element-set-from-n-15 Inv-loop2 μ-loop2 Inv-loop3 μ-loop3 Inv-loop4 μ-loop4 Inv-loop μ-loop
+element-set-from-n-15 c = is-within (known (c .before .before .before .before .before)) (c .before .before .before .change10 .given .1)

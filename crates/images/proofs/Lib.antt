@@ -1,0 +1,5 @@
+pub mod Back
+pub mod Determined
+pub mod Rows
+pub mod Tests
+pub mod Words

@@ -1,0 +1,33 @@
+use mathlib.Core.Path.{ap}
+use mathlib.Core.List.{List, map}
+use denote.Ref.{now}
+use lib.Ieee.{nan}
+use Rattle.held.specs.declared.parts.Operand.the-variants.{Number}
+use Rattle.held.specs.declared.parts.Register.{Register}
+use Rattle.held.specs.View.{viewRegister}
+use Rattle.images.specs.Image.{registersOver}
+use Rattle.images.proofs.Rows.{spelt}
+use borrow.Author.Needs.{needs}
+use Rattle.images.proofs.spelling.put_registers.Statement.{statement}
+use Rattle.images.proofs.spelling.put_registers.Tie as tie
+
+returns : tie.Need-returns
+returns c =
+    let a = c .before .before .before .before .before .before .before .before .before .before .before .before .before .before .before .before .before .before .before .before .before .args in
+    rw (c .before .before .put-register4 .ensures, c .before .before .before .before .before .before .before .put-register3 .ensures, c .before .before .before .before .before .before .before .before .before .before .before .before .put-register2 .ensures, c .before .before .before .before .before .before .before .before .before .before .before .before .before .before .before .before .before .put-register .ensures)
+    (ap (λ (l : List Register). registersOver (map viewRegister l) (now (a .row))) (spelt (record { operand = Number nan }) (a .t2) 4 (search needs)))
+
+pub put-registers-spec : {M : Type 1} → statement M
+put-registers-spec =
+    tie.close
+    (tie.spec
+    (λ c. search needs)
+    (λ c κs. search needs)
+    (λ c. search needs)
+    (λ c κs. search needs)
+    (λ c. search needs)
+    (λ c κs. search needs)
+    (λ c. search needs)
+    (λ c κs. search needs)
+    (λ c. search needs)
+    returns)
