@@ -15,7 +15,8 @@ use Rattle.order.specs.Issue.{onward, instructionAt}
 use Rattle.order.specs.Steps.{putStore, giveStore}
 use Rattle.order.specs.OneAtATime.{Run, value}
 use Rattle.order.specs.Asked.{written}
-use Rattle.order.proofs.Rows.{eqb-cases, set-all}
+use Rattle.words.proofs.Known.{eqb-cases}
+use Rattle.order.proofs.Rows.{set-all}
 use Rattle.order.proofs.Words.{WellFormed, cell-in-area}
 use Rattle.order.proofs.Holds.{StoreOk, Inv, arrival-keeps, completion-keeps, buffer-grant-keeps, station-grant-keeps, release-keeps}
 use Rattle.order.proofs.Issue.{no-store, Room, issued, issue-keeps}

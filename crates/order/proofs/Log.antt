@@ -17,7 +17,8 @@ use Rattle.order.specs.Issue.{instructionAt}
 use Rattle.order.specs.Steps.{giveStore}
 use Rattle.order.specs.Asked.{written, logged, writtenAll}
 use Rattle.order.specs.Statement.{recordsOf, isStore}
-use Rattle.order.proofs.Rows.{bool-cases, eqb-cases, sum-swap, sum-map, sum-snoc, sum-zero}
+use Rattle.words.proofs.Known.{eqb-cases}
+use Rattle.order.proofs.Rows.{bool-cases, sum-swap, sum-map, sum-snoc, sum-zero}
 use Rattle.order.proofs.Words.{no-instruction}
 use Rattle.order.proofs.Issue.{Room, issued}
 use Rattle.order.proofs.Moves.{Move, issuing, arriving, completing, grantingBuffer, grantingStation, releasing, moved, effect}

@@ -19,7 +19,8 @@ use Rattle.order.specs.OneAtATime.{Run, value, runTo}
 use Rattle.order.specs.Entries.{Fresh, Ran, emptyMachine, listRefusal, stepsLeft}
 use Rattle.order.specs.Asked.{State, written, logged, writtenAll, ask, asked, takenOf, begin}
 use Rattle.order.specs.Statement.{isDrained, OfStore, OrderTheorem}
-use Rattle.order.proofs.Rows.{eqb-cases, getD-all, every-snoc}
+use Rattle.words.proofs.Known.{eqb-cases}
+use Rattle.order.proofs.Rows.{getD-all, every-snoc}
 use Rattle.order.proofs.Holds.{register, Held, StoreOk}
 use Rattle.order.proofs.Moves.{Move, issuing, arriving, completing, grantingBuffer, grantingStation, releasing, moved, effect, step-view, refused-changes-nothing}
 use Rattle.order.proofs.GoodOrder.{orderly, Good, of-good}

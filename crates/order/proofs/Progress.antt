@@ -17,7 +17,8 @@ use Rattle.order.specs.Machine.{Kind, Lent, num, tag, Buffer, freeBuffer
 use Rattle.order.specs.GoodOrder.{fromStation, bufferGiver, stationGiver, giverIn, giver, giverOf, hasCell, before, nothingLive, drained}
 use Rattle.order.specs.Issue.{lowestBuffer, lowestStation, lowestStore, cellLive, issueOf, wordAt, instructionAt, refusalOf}
 use Rattle.order.specs.Steps.{Step, issue, arrival, completion, bufferGrant, stationGrant, release, stepOf, performStep, perform}
-use Rattle.order.proofs.Rows.{bool-cases, and-l, and-r, and-i, absurd-bool, eqb-cases, allBelow-of, allBelow-not, first-found, row-of}
+use Rattle.words.proofs.Known.{eqb-cases}
+use Rattle.order.proofs.Rows.{bool-cases, and-l, and-r, and-i, absurd-bool, allBelow-of, allBelow-not, first-found, row-of}
 use Rattle.order.proofs.Tags.{firstArrival, firstCompletion, firstBufferGrant, firstStationGrant, firstRelease, SlotView, is-buffer, is-station, slot-view, arrival-code, completion-code, buffer-grant-code, station-grant-code, release-code, issue-code}
 use Rattle.order.proofs.Words.{WellFormed, word-formed, Passes}
 use Rattle.order.proofs.Holds.{Names, StationOk, StoreOk}

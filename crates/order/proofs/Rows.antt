@@ -11,6 +11,7 @@ use lib.Dec.{T, ltb, leb, eqb}
 use lib.ListN.{length, getD, set, replicate, List·getD-eq-default}
 use lib.Seq.{getD-set-same, getD-set-other}
 use borrow.Author.Tests.{ltb-true, ltb-false, leb-true, eqb-true, eqb-false, le-leb, lt-leb}
+use Rattle.words.proofs.Known.{eqb-cases}
 use Rattle.order.specs.Rows.{allOf, allBelow, first, between, sum, Every}
 
 -- TESTS
@@ -50,13 +51,6 @@ or-i false b f = f refl
 
 pub absurd-bool {ℓ} : {X : Type ℓ} {b : Bool} → b ≡ true → b ≡ false → X
 absurd-bool p q = absurd (subst T (sym p ∙ q) tt)
-
-pub eqb-cases : (a b : ℕ) → (a ≡ b) ⊎ (a ≢ b)
-eqb-cases a b = go (eqb a b) refl
-  where
-    go : (t : Bool) → eqb a b ≡ t → (a ≡ b) ⊎ (a ≢ b)
-    go true e = inl (eqb-true a b e)
-    go false e = inr (eqb-false a b e)
 
 pub allOf-at : (l : List Bool) → allOf l ≡ true → (k : ℕ) → getD l k true ≡ true
 allOf-at [] e k = refl

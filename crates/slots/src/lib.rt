@@ -1,5 +1,3 @@
-// One slot at a time, for crate machine: a code read, the lowest free slot, what a slot becomes, and the bus.
-pub mod bus;
+// For crate machine: a code read, and what a slot becomes.
 pub mod code;
-pub mod free;
 pub mod made;

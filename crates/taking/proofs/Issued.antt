@@ -22,11 +22,11 @@ use Rattle.order.specs.Issue.{refused, taken, lowestBuffer, lowestStation, lowe
 use Rattle.order.proofs.Rows.{first-some}
 use Rattle.order.proofs.Words.{WellFormed, word-formed}
 use Rattle.held.specs.View.{viewRegister, viewBuffer, viewStation, viewStore}
-use Rattle.slots.specs.Slots.{viewFound, lowestBufferIn, lowestStationIn, lowestStoreIn, cellLiveIn}
+use Rattle.free.specs.Free.{viewFound, lowestBufferIn, lowestStationIn, lowestStoreIn, cellLiveIn}
 use Rattle.taking.specs.Changes.{changed, Within, Grows, asked, RegistersIn, standing, Issues, IssuesNext}
 use Rattle.taking.specs.declared.change.Change.{Change}
 use Rattle.taking.specs.declared.change.Change.the-variants.{Refused, Loads, TakesCell, Copies, TakesRegister, Stores}
-use Rattle.slots.specs.declared.free.Found.{Found}
+use Rattle.free.specs.declared.Found.{Found}
 use Rattle.held.specs.declared.parts.Operand.the-variants.{Number}
 use Rattle.held.specs.declared.parts.Register.{Register}
 use Rattle.held.specs.declared.parts.Buffer.{Buffer}

@@ -1,15 +1,15 @@
 // Issue: which slots an instruction takes, "always using the lowest-numbered free one".
 use crate::change::Change;
 use crate::change::not_now;
+use free::Found;
+use free::cell_live;
+use free::lowest_buffer;
+use free::lowest_station;
+use free::lowest_store;
 use held::parts::Buffer;
 use held::parts::Register;
 use held::parts::Station;
 use held::parts::StoreBuffer;
-use slots::free::Found;
-use slots::free::cell_live;
-use slots::free::lowest_buffer;
-use slots::free::lowest_station;
-use slots::free::lowest_store;
 use words::Form;
 use words::refusal;
 ghost use mathlib.Core.Path.{_≡_};

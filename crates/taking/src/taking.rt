@@ -8,7 +8,6 @@ use groups::number_at;
 use held::parts::Machine;
 use held::parts::Released;
 use held::parts::Tag;
-use slots::bus;
 use slots::code::Step;
 use slots::code::step_of;
 use slots::made;

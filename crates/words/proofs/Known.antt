@@ -1,16 +1,18 @@
 -- What an accepted field is: its bounds.
 use mathlib.Core.Path.{_≡_, refl}
 use mathlib.Core.Bool.{Bool, true, false, cond, _&&_, _||_}
+use mathlib.Core.Logic.{_⊎_, inl, inr, _≢_}
 use mathlib.Core.List.{List, [], _∷_}
 use Prim.Native.Nat.{ℕ, zero, suc, _≤_, _<_}
 use native.Mathlib.Nat.{not-suc-le-zero, le-of-suc-le-suc}
 use native.Mathlib.Omega.{arith}
 use lib.Dec.{ltb, leb, eqb}
 use lib.ListN.{length, getD, drop}
-use borrow.Author.Tests.{ltb-true, leb-true, eqb-true}
+use borrow.Author.Tests.{ltb-true, leb-true, eqb-true, eqb-false}
 use Rattle.words.specs.declared.Form.{Form}
 use Rattle.words.specs.declared.Form.the-variants.{Unknown, LD, LDR, CellArithmetic, RegisterArithmetic, STD}
 use Rattle.words.specs.Instructions.{table, formOf, isRegister, isCell}
+use Rattle.words.specs.Operands.{isKnown}
 use Rattle.words.specs.Check.{operationRefusal, registerRefusal, cellRefusal, operandRefusal}
 
 -- a test that chooses between 0 and a refusal came out 0
@@ -18,7 +20,14 @@ passed : (b : Bool) (n : ℕ) → cond b 0 (suc n) ≡ 0 → b ≡ true
 passed true n e = refl
 passed false n e = let z : _≡_ {A = ℕ} 0 1 = cc in absurd (omega arith)
 
-both : (a b : Bool) → a && b ≡ true → (a ≡ true) × (b ≡ true)
+pub eqb-cases : (a b : ℕ) → (a ≡ b) ⊎ (a ≢ b)
+eqb-cases a b = go (eqb a b) refl
+  where
+    go : (t : Bool) → eqb a b ≡ t → (a ≡ b) ⊎ (a ≢ b)
+    go true e = inl (eqb-true a b e)
+    go false e = inr (eqb-false a b e)
+
+pub both : (a b : Bool) → a && b ≡ true → (a ≡ true) × (b ≡ true)
 both true true e = (refl, refl)
 both true false e = (refl, e)
 both false b e = (e, cc)
@@ -51,14 +60,6 @@ known-cell : (area c : ℕ) → cellRefusal area c ≡ 0 → c < 256
 unfolding cellRefusal isCell
 known-cell area c e = ltb-true c 256 (both (ltb c 256) (ltb c area) (passed (isCell area c) 3 e) .0)
 
-abbrev isKnown : Form → Bool
-isKnown Unknown = false
-isKnown LD = true
-isKnown LDR = true
-isKnown (CellArithmetic o) = true
-isKnown (RegisterArithmetic o) = true
-isKnown STD = true
-
 abbrev allKnown : List Form → Bool
 allKnown [] = true
 allKnown (f ∷ fs) = isKnown f && allKnown fs
@@ -69,7 +70,7 @@ known-at (f ∷ fs) e zero h = both (isKnown f) (allKnown fs) e .0
 known-at (f ∷ fs) e (suc i) h = known-at fs (both (isKnown f) (allKnown fs) e .1) i (le-of-suc-le-suc h)
 
 -- all rows of the table but row 0 are known
-form-known : (o : ℕ) → 1 ≤ o → o ≤ 11 → isKnown (formOf o) ≡ true
+pub form-known : (o : ℕ) → 1 ≤ o → o ≤ 11 → isKnown (formOf o) ≡ true
 form-known zero p h = absurd (not-suc-le-zero p)
 form-known (suc o) p h = known-at (drop 1 table) refl o (omega arith)
 

@@ -1,17 +1,21 @@
 -- The operand's refusal, by what the operand is held to: a register's number or a cell's.
 use mathlib.Core.Path.{_≡_, refl, sym, _∙_}
-use mathlib.Core.Bool.{Bool, true, false, cond, _&&_, true≢false}
+use mathlib.Core.Bool.{Bool, true, false, cond, not, _&&_, true≢false}
 use mathlib.Core.Logic.{_⊎_, inl, inr, ⊎-elim, _≢_}
-use Prim.Native.Nat.{ℕ, _≤_, _<_, _%_}
+use mathlib.Core.List.{List, [], _∷_}
+use Prim.Native.Nat.{ℕ, zero, suc, _+_, _≤_, _<_, _%_}
+use native.Mathlib.Nat.{add-zero, not-suc-le-zero, le-of-suc-le-suc}
 use native.Mathlib.Omega.{arith}
 use lib.Bits.{bitAnd, and-mask, and-zero-r}
 use lib.Dec.{ltb, eqb}
-use borrow.Author.Tests.{lt-ltb, le-ltb, eqb-true, eqb-false}
+use lib.ListN.{length, getD, drop}
+use borrow.Author.Tests.{lt-ltb, le-ltb}
 use Rattle.words.specs.declared.Form.{Form}
 use Rattle.words.specs.declared.Form.the-variants.{Unknown, LD, LDR, CellArithmetic, RegisterArithmetic, STD}
-use Rattle.words.specs.Instructions.{isCell}
-use Rattle.words.specs.Operands.{isKnown, takesRegister, isStore}
-use Rattle.words.specs.Check.{registerRefusal, cellRefusal, operandRefusal}
+use Rattle.words.specs.Instructions.{table, formOf, isCell}
+use Rattle.words.specs.Operands.{isKnown, takesRegister, isStore, heldRefusal}
+use Rattle.words.specs.Check.{operationRefusal, registerRefusal, cellRefusal, operandRefusal}
+use Rattle.words.proofs.Known.{both, eqb-cases, known-operation, form-known}
 use Rattle.words.proofs.Registers.{OneOfFour, is-register, no-register}
 
 -- above its area a cell is refused, whatever the limit says
@@ -19,18 +23,11 @@ no-cell : (b : Bool) → _≡_ {A = ℕ} 4 (cond (b && false) 0 4)
 no-cell true = refl
 no-cell false = refl
 
-same-or : (a b : ℕ) → (a ≡ b) ⊎ (a ≢ b)
-same-or a b = go (eqb a b) refl
-  where
-    go : (t : Bool) → eqb a b ≡ t → (a ≡ b) ⊎ (a ≢ b)
-    go true e = inl (eqb-true a b e)
-    go false e = inr (eqb-false a b e)
-
 even-small : (r : ℕ) → r < 8 → r % 2 ≡ 0 → OneOfFour r
 even-small r h e =
     ⊎-elim inl
-    (λ (a : r ≢ 0). inr (⊎-elim inl (λ (b : r ≢ 2). inr (⊎-elim inl (λ (d : r ≢ 4). inr (omega arith)) (same-or r 4))) (same-or r 2)))
-    (same-or r 0)
+    (λ (a : r ≢ 0). inr (⊎-elim inl (λ (b : r ≢ 2). inr (⊎-elim inl (λ (d : r ≢ 4). inr (omega arith)) (eqb-cases r 4))) (eqb-cases r 2)))
+    (eqb-cases r 0)
 
 module _ (operands results x : ℕ) where
   pub none-refused : (f : Form) → isKnown f ≡ false → 0 ≡ operandRefusal operands results f x
@@ -41,12 +38,7 @@ module _ (operands results x : ℕ) where
   none-refused (RegisterArithmetic o) e = absurd (true≢false e)
   none-refused STD e = absurd (true≢false e)
 
-  -- a register's refusal or a cell's
-  abbrev pub ofKind : (register : Bool) (area : ℕ) → ℕ
-  ofKind true area = registerRefusal x
-  ofKind false area = cellRefusal area x
-
-  pub by-kind : (f : Form) → isKnown f ≡ true → ofKind (takesRegister f) (cond (isStore f) results operands) ≡ operandRefusal operands results f x
+  pub by-kind : (f : Form) → isKnown f ≡ true → heldRefusal x (takesRegister f) (cond (isStore f) results operands) ≡ operandRefusal operands results f x
   by-kind Unknown e = absurd (true≢false (sym e))
   by-kind LD e = refl
   by-kind LDR e = refl
@@ -54,60 +46,98 @@ module _ (operands results x : ℕ) where
   by-kind (RegisterArithmetic o) e = refl
   by-kind STD e = refl
 
-  module _ (area : ℕ) where
-    pub above-limit : (r : Bool) → cond r 8 area ≤ x → cond r 3 4 ≡ ofKind r area
-    unfolding registerRefusal cellRefusal isCell
-    above-limit true h = rw (no-register x (λ (o : OneOfFour x). no-four o))
-      where
-        no-four : OneOfFour x → ⊥
-        no-four (inl e) = omega arith
-        no-four (inr (inl e)) = omega arith
-        no-four (inr (inr (inl e))) = omega arith
-        no-four (inr (inr (inr e))) = omega arith
-    above-limit false h = rw (le-ltb x area h) (no-cell (ltb x 256))
+module _ (x area : ℕ) where
+  pub above-limit : (r : Bool) → cond r 8 area ≤ x → cond r 3 4 ≡ heldRefusal x r area
+  unfolding registerRefusal cellRefusal isCell
+  above-limit true h = rw (no-register x (λ (o : OneOfFour x). no-four o))
+    where
+      no-four : OneOfFour x → ⊥
+      no-four (inl e) = omega arith
+      no-four (inr (inl e)) = omega arith
+      no-four (inr (inr (inl e))) = omega arith
+      no-four (inr (inr (inr e))) = omega arith
+  above-limit false h = rw (le-ltb x area h) (no-cell (ltb x 256))
 
-    pub above-cells : (r : Bool) → x < cond r 8 area → 256 ≤ x → cond r 3 4 ≡ ofKind r area
-    unfolding cellRefusal isCell
-    above-cells true h g = absurd (omega arith)
-    above-cells false h g = rw (le-ltb x 256 g)
+  pub above-cells : (r : Bool) → x < cond r 8 area → 256 ≤ x → cond r 3 4 ≡ heldRefusal x r area
+  unfolding cellRefusal isCell
+  above-cells true h g = absurd (omega arith)
+  above-cells false h g = rw (le-ltb x 256 g)
 
-    -- m is the operand's lowest bit for a register, and 0 for a cell
-    pub odd-one : (r : Bool) (m : ℕ) → m ≡ cond r (x % 2) 0 → (m ≡ 0 → ⊥) → cond r 3 4 ≡ ofKind r area
-    unfolding registerRefusal
-    odd-one true m e n = rw (no-register x (λ (o : OneOfFour x). even o))
-      where
-        even : OneOfFour x → ⊥
-        even (inl z) = n (omega arith)
-        even (inr (inl z)) = n (omega arith)
-        even (inr (inr (inl z))) = n (omega arith)
-        even (inr (inr (inr z))) = n (omega arith)
-    odd-one false m e n = absurd (n e)
+  -- m is the operand's lowest bit for a register, and 0 for a cell
+  pub odd-one : (r : Bool) (m : ℕ) → m ≡ cond r (x % 2) 0 → (m ≡ 0 → ⊥) → cond r 3 4 ≡ heldRefusal x r area
+  unfolding registerRefusal
+  odd-one true m e n = rw (no-register x (λ (o : OneOfFour x). even o))
+    where
+      even : OneOfFour x → ⊥
+      even (inl z) = n (omega arith)
+      even (inr (inl z)) = n (omega arith)
+      even (inr (inr (inl z))) = n (omega arith)
+      even (inr (inr (inr z))) = n (omega arith)
+  odd-one false m e n = absurd (n e)
 
-    pub passes : (r : Bool) (m : ℕ) → m ≡ cond r (x % 2) 0 → x < cond r 8 area → x < 256 → m ≡ 0 → 0 ≡ ofKind r area
-    unfolding registerRefusal cellRefusal isCell
-    passes true m e h g z = rw (is-register x (even-small x h (omega arith)))
-    passes false m e h g z = rw (lt-ltb x 256 g, lt-ltb x area h)
+  pub passes : (r : Bool) (m : ℕ) → m ≡ cond r (x % 2) 0 → x < cond r 8 area → x < 256 → m ≡ 0 → 0 ≡ heldRefusal x r area
+  unfolding registerRefusal cellRefusal isCell
+  passes true m e h g z = rw (is-register x (even-small x h (omega arith)))
+  passes false m e h g z = rw (lt-ltb x 256 g, lt-ltb x area h)
 
 -- what the operand is held to, as the code chose it: a limit, and an odd bit
-pub record Judged (operands results x : ℕ) (f : Form) (limit odd number : ℕ) : Type 0 where
-  pub above : limit ≤ x → number ≡ operandRefusal operands results f x
-  pub beyond : x < limit → 256 ≤ x → number ≡ operandRefusal operands results f x
-  pub uneven : (bitAnd x odd ≡ 0 → ⊥) → number ≡ operandRefusal operands results f x
-  pub good : x < limit → x < 256 → bitAnd x odd ≡ 0 → 0 ≡ operandRefusal operands results f x
+pub record Judged (x : ℕ) (register : Bool) (area limit odd number : ℕ) : Type 0 where
+  pub above : limit ≤ x → number ≡ heldRefusal x register area
+  pub beyond : x < limit → 256 ≤ x → number ≡ heldRefusal x register area
+  pub uneven : (bitAnd x odd ≡ 0 → ⊥) → number ≡ heldRefusal x register area
+  pub good : x < limit → x < 256 → bitAnd x odd ≡ 0 → 0 ≡ heldRefusal x register area
 
 odd-bit : (x : ℕ) (r : Bool) → bitAnd x (cond r 1 0) ≡ cond r (x % 2) 0
 odd-bit x true = and-mask x 1
 odd-bit x false = and-zero-r x
 
-pub judged : (operands results x : ℕ) (f : Form) → isKnown f ≡ true
-    → {r s : Bool} {area limit odd number : ℕ} → r ≡ takesRegister f → s ≡ isStore f → area ≡ cond s results operands
-    → limit ≡ cond r 8 area → odd ≡ cond r 1 0 → number ≡ cond r 3 4 → Judged operands results x f limit odd number
-judged operands results x f k {r} {s} {area} {limit} {odd} {number} er es ea el eo en =
-    let kind : ofKind operands results x r area ≡ operandRefusal operands results f x = rw (er, ea, es) (by-kind operands results x f k) in
+pub judged : (x : ℕ) (r : Bool) (area : ℕ) → {limit odd number : ℕ} → limit ≡ cond r 8 area → odd ≡ cond r 1 0 → number ≡ cond r 3 4 → Judged x r area limit odd number
+judged x r area {limit} {odd} {number} el eo en =
     let m : bitAnd x odd ≡ cond r (x % 2) 0 = rw eo (odd-bit x r) in
     record {
-      above = λ h. en ∙ above-limit operands results x area r (rw el at h) ∙ kind;
-      beyond = λ h g. en ∙ above-cells operands results x area r (rw el at h) g ∙ kind;
-      uneven = λ n. en ∙ odd-one operands results x area r (bitAnd x odd) m n ∙ kind;
-      good = λ h g z. passes operands results x area r (bitAnd x odd) m (rw el at h) g z ∙ kind;
+      above = λ h. en ∙ above-limit x area r (rw el at h);
+      beyond = λ h g. en ∙ above-cells x area r (rw el at h) g;
+      uneven = λ n. en ∙ odd-one x area r (bitAnd x odd) m n;
+      good = λ h g z. passes x area r (bitAnd x odd) m (rw el at h) g z;
     }
+
+-- "the operations that take a register are the even ones", and the last one stores: row by row of the table
+abbrev same : Bool → Bool → Bool
+same true b = b
+same false b = not b
+
+same-so : (a b : Bool) → same a b ≡ true → a ≡ b
+same-so true true e = refl
+same-so true false e = sym e
+same-so false true e = e
+same-so false false e = refl
+
+abbrev kindsFrom : (n : ℕ) → List Form → Bool
+kindsFrom n [] = true
+kindsFrom n (f ∷ fs) = same (takesRegister f) (eqb (n % 2) 0) && (same (isStore f) (eqb n 11) && kindsFrom (suc n) fs)
+
+abbrev KindOf : (n : ℕ) → Form → Type 0
+KindOf n f = (takesRegister f ≡ eqb (n % 2) 0) × (isStore f ≡ eqb n 11)
+
+kinds-at : (fs : List Form) (n : ℕ) → kindsFrom n fs ≡ true → (i : ℕ) → i < length fs → KindOf (n + i) (getD fs i Unknown)
+kinds-at [] n e i h = absurd (not-suc-le-zero h)
+kinds-at (f ∷ fs) n e zero h =
+    let t = both (same (takesRegister f) (eqb (n % 2) 0)) (same (isStore f) (eqb n 11) && kindsFrom (suc n) fs) e in
+    let u = both (same (isStore f) (eqb n 11)) (kindsFrom (suc n) fs) (t .1) in
+    rw (add-zero n) (same-so (takesRegister f) (eqb (n % 2) 0) (t .0), same-so (isStore f) (eqb n 11) (u .0))
+kinds-at (f ∷ fs) n e (suc i) h =
+    let t = both (same (takesRegister f) (eqb (n % 2) 0)) (same (isStore f) (eqb n 11) && kindsFrom (suc n) fs) e in
+    let u = both (same (isStore f) (eqb n 11)) (kindsFrom (suc n) fs) (t .1) in
+    let z : n + suc i ≡ suc n + i = omega arith in
+    rw z (kinds-at fs (suc n) (u .1) i (le-of-suc-le-suc h))
+
+pub kind-of : (o : ℕ) → 1 ≤ o → o ≤ 11 → KindOf o (formOf o)
+kind-of zero p h = absurd (not-suc-le-zero p)
+kind-of (suc o) p h = let z : 1 + o ≡ suc o = omega arith in rw (← z) (kinds-at (drop 1 table) 1 refl o (omega arith))
+
+pub by-its-operation : (operands results x o : ℕ) → operationRefusal o ≡ 0
+    → heldRefusal x (eqb (o % 2) 0) (cond (eqb o 11) results operands) ≡ operandRefusal operands results (formOf o) x
+by-its-operation operands results x o e =
+    let k = known-operation o e in
+    let t = kind-of o (k .0) (k .1) in
+    (λ i. heldRefusal x (sym (t .0) i) (cond (sym (t .1) i) results operands)) ∙ by-kind operands results x (formOf o) (form-known o (k .0) (k .1))

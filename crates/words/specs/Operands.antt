@@ -1,7 +1,9 @@
 -- What only the private contracts of the operand's refusal cite: what an instruction's operand is.
 use mathlib.Core.Bool.{Bool, true, false}
+use Prim.Native.Nat.{ℕ}
 use Rattle.words.specs.declared.Form.{Form}
 use Rattle.words.specs.declared.Form.the-variants.{Unknown, LD, LDR, CellArithmetic, RegisterArithmetic, STD}
+use Rattle.words.specs.Check.{registerRefusal, cellRefusal}
 
 abbrev pub isKnown : Form → Bool
 isKnown Unknown = false
@@ -26,3 +28,8 @@ isStore LDR = false
 isStore (CellArithmetic o) = false
 isStore (RegisterArithmetic o) = false
 isStore STD = true
+
+-- an operand held to a register's number or to the cells of an area
+abbrev pub heldRefusal : (operand : ℕ) (register : Bool) (area : ℕ) → ℕ
+heldRefusal operand true area = registerRefusal operand
+heldRefusal operand false area = cellRefusal area operand

@@ -3,7 +3,7 @@ use numbers::Operation;
 ghost use mathlib.Core.Path.{_≡_};
 ghost use Rattle.words.specs.Instructions.{operationField, r1Field, operandField, formOf};
 ghost use mathlib.Core.Bool.{cond};
-ghost use Rattle.words.specs.Operands.{isKnown, takesRegister, isStore};
+ghost use Rattle.words.specs.Operands.{isKnown, takesRegister, isStore, heldRefusal};
 ghost use Rattle.words.specs.Check.{operationRefusal, registerRefusal, operandRefusal, wordRefusal, listCheck, listCheckAlone};
 
 pub mod refusal;
@@ -15,6 +15,9 @@ pub const CELL_LIMIT: usize = 256;
 
 // Below it the even numbers are the registers.
 const REGISTER_LIMIT: usize = 8;
+
+// STD.
+const STORE: u32 = 11;
 
 // What a word asks for, by its operation's number.
 pub enum Form {
@@ -139,17 +142,12 @@ fn chosen(test: bool, yes: usize, no: usize) -> usize
     no
 }
 
-// The operand's own refusal, against areas of so many operand and result cells. What the operand is held to is chosen first, and then tested in one
-// way: a branch on the kind of operand would be mispredicted at every other word of a mixed list.
-pub fn operand_refusal(form: Form, operand: u32, operands: usize, results: usize) -> u32
-    ensures { λ r. ⌜ r ≡ operandRefusal operands results form operand ⌝ }
+// An operand's refusal, held to a register's number or to the cells of an area. What it is held to is chosen first, and then tested in one way: a
+// branch on the kind of operand would be mispredicted at every other word of a mixed list.
+fn held_refusal(operand: u32, register: bool, area: usize) -> u32
+    ensures { λ r. ⌜ r ≡ heldRefusal operand register area ⌝ }
 {
-    if !is_known(form) {
-        return refusal::ACCEPTED;
-    }
     let at = operand as usize;
-    let register = takes_register(form);
-    let area = chosen(is_store(form), results, operands);
     let limit = chosen(register, REGISTER_LIMIT, area);
     let odd = chosen(register, 1, 0);
     let number = chosen(register, refusal::REGISTER as usize, refusal::CELL as usize) as u32;
@@ -165,7 +163,18 @@ pub fn operand_refusal(form: Form, operand: u32, operands: usize, results: usize
     refusal::ACCEPTED
 }
 
-// Inside a word 2, then R1's 3, then the operand's 3 or 4.
+// The operand's own refusal, against areas of so many operand and result cells.
+pub fn operand_refusal(form: Form, operand: u32, operands: usize, results: usize) -> u32
+    ensures { λ r. ⌜ r ≡ operandRefusal operands results form operand ⌝ }
+{
+    if !is_known(form) {
+        return refusal::ACCEPTED;
+    }
+    let area = chosen(is_store(form), results, operands);
+    held_refusal(operand, takes_register(form), area)
+}
+
+// Inside a word 2, then R1's 3, then the operand's 3 or 4. The operations that take a register are the even ones.
 pub fn word_refusal(word: u32, operands: usize, results: usize) -> u32
     ensures { λ r. ⌜ r ≡ wordRefusal operands results word ⌝ }
 {
@@ -178,7 +187,8 @@ pub fn word_refusal(word: u32, operands: usize, results: usize) -> u32
     if wrong != 0 {
         return wrong;
     }
-    operand_refusal(form_of(operation), operand_of(word), operands, results)
+    let area = chosen(operation == STORE, results, operands);
+    held_refusal(operand_of(word), operation % 2 == 0, area)
 }
 
 // The list against areas of so many operand and result cells: 1 at place 4,096, else the first bad word with its place, else 0 at the length.

@@ -1,8 +1,12 @@
 use mathlib.Core.Path.{_≡_, sym, ap, _∙_}
+use Prim.Native.Nat.{ℕ, _%_}
+use lib.Dec.{eqb}
 use borrow.Author.Needs.{needs}
 use borrow.Author.Tests.{eq-eqb, ne-eqb}
 use Rattle.words.specs.Instructions.{operationField, r1Field, operandField, formOf}
 use Rattle.words.specs.Check.{operationRefusal, registerRefusal, operandRefusal, wordRefusal}
+use Rattle.words.specs.Operands.{heldRefusal}
+use Rattle.words.proofs.Operands.{by-its-operation}
 use Rattle.words.proofs.First.{last-refusal}
 use Rattle.words.proofs.word_refusal.Statement.{statement}
 use Rattle.words.proofs.word_refusal.Tie as tie
@@ -16,13 +20,16 @@ by-register : (c : tie.After-register-refusal)
     → c .register-refusal .result ≡ registerRefusal (r1Field (c .before .before .before .before .before .args .word))
 by-register c = c .register-refusal .ensures ∙ ap registerRefusal (c .before .r1-of .ensures)
 
-by-operand : (c : tie.After-operand-refusal)
+by-operand : (c : tie.After-held-refusal)
     → let a = c .before .before .before .before .before .before .before .before .before .args in
-    c .operand-refusal .result ≡ operandRefusal (a .operands) (a .results) (formOf (operationField (a .word))) (operandField (a .word))
+    c .held-refusal .result ≡ operandRefusal (a .operands) (a .results) (formOf (operationField (a .word))) (operandField (a .word))
 by-operand c =
     let t = c .before .before .before .before .before .before .before .before in
-    let f : c .before .before .form-of .result ≡ formOf (operationField (t .before .args .word)) = c .before .before .form-of .ensures ∙ ap formOf (t .operation-of .ensures) in
-    c .operand-refusal .ensures ∙ (λ i. operandRefusal (t .before .args .operands) (t .before .args .results) (f i) (c .before .operand-of .ensures i))
+    let a = t .before .args in
+    let o = t .operation-of .result in
+    c .held-refusal .ensures ∙ (λ i. heldRefusal (c .before .operand-of .ensures i) (eqb (o % 2) 0) (c .before .before .chosen .ensures i))
+    ∙ by-its-operation (a .operands) (a .results) (operandField (a .word)) o (sym (c .before .before .before .before .before .before .before .operation-refusal .ensures) ∙ c .before .before .before .before .before .before .if1 .left)
+    ∙ ap (λ (n : ℕ). operandRefusal (a .operands) (a .results) (formOf n) (operandField (a .word))) (t .operation-of .ensures)
 
 returns : tie.Need-returns
 unfolding wordRefusal

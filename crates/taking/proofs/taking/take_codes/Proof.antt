@@ -14,7 +14,7 @@ use Rattle.groups.specs.Told.{told}
 use Rattle.order.specs.Machine.{tag}
 use Rattle.held.proofs.Whole.{whole}
 use Rattle.taking.proofs.Takes.{begins, at-end, number-stops, step-stops, full-stops, release-stops}
-use Rattle.slots.proofs.Given.{giving-none, register-given, register-kept, station-given, station-kept, store-given, store-kept}
+use Rattle.bus.proofs.Given.{giving-none, register-given, register-kept, station-given, station-kept, store-given, store-kept}
 use Rattle.taking.proofs.Changing.{buffer-tagged, station-tagged}
 use Rattle.taking.proofs.Arms.{is-change, is-within, loads, takes-cell, copies, takes-register, stores, arrives, completes, releases}
 use borrow.Author.Needs.{needs}

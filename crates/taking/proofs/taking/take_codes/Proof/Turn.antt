@@ -16,7 +16,7 @@ use Rattle.order.specs.Issue.{taken}
 use Rattle.held.specs.declared.parts.Machine.{Machine}
 use Rattle.taking.proofs.Forwards.{moves-on}
 use Rattle.taking.proofs.Takes.{Here, goes-on}
-use Rattle.slots.proofs.Given.{Giving, given-all}
+use Rattle.bus.proofs.Given.{Giving, given-all}
 use Rattle.taking.proofs.Arms.{Known, Steps, buffer-freed, station-freed, gives-low, gives-high}
 use Rattle.taking.proofs.Found.{no-step, issue-found, arrival-found, completion-found, buffer-grant-found, station-grant-found, release-found}
 use Rattle.taking.proofs.taking.take_codes.Tie as tie
