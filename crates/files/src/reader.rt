@@ -42,8 +42,7 @@ fn operand_at(operation: u32, r1: u32, bytes: &[u8], at: usize) -> Parsed
 {
     match number_at(bytes, at) {
         Parsed::Accepted(operand, next) => {
-            let form = words::form_of(operation);
-            let own = words::operand_refusal(form, operand, CELL_LIMIT, CELL_LIMIT);
+            let own = words::operand_refusal(operation, operand, CELL_LIMIT, CELL_LIMIT);
             if own != 0 {
                 return Parsed::Refused(own, at);
             }

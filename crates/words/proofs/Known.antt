@@ -12,7 +12,6 @@ use borrow.Author.Tests.{ltb-true, leb-true, eqb-true, eqb-false}
 use Rattle.words.specs.declared.Form.{Form}
 use Rattle.words.specs.declared.Form.the-variants.{Unknown, LD, LDR, CellArithmetic, RegisterArithmetic, STD}
 use Rattle.words.specs.Instructions.{table, formOf, isRegister, isCell}
-use Rattle.words.specs.Operands.{isKnown}
 use Rattle.words.specs.Check.{operationRefusal, registerRefusal, cellRefusal, operandRefusal}
 
 -- a test that chooses between 0 and a refusal came out 0
@@ -59,6 +58,14 @@ known-register r e = four (passed (isRegister r) 2 e)
 known-cell : (area c : ℕ) → cellRefusal area c ≡ 0 → c < 256
 unfolding cellRefusal isCell
 known-cell area c e = ltb-true c 256 (both (ltb c 256) (ltb c area) (passed (isCell area c) 3 e) .0)
+
+abbrev pub isKnown : Form → Bool
+isKnown Unknown = false
+isKnown LD = true
+isKnown LDR = true
+isKnown (CellArithmetic o) = true
+isKnown (RegisterArithmetic o) = true
+isKnown STD = true
 
 abbrev allKnown : List Form → Bool
 allKnown [] = true

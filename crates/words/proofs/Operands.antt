@@ -8,15 +8,31 @@ use native.Mathlib.Nat.{add-zero, not-suc-le-zero, le-of-suc-le-suc}
 use native.Mathlib.Omega.{arith}
 use lib.Bits.{bitAnd, and-mask, and-zero-r}
 use lib.Dec.{ltb, eqb}
-use lib.ListN.{length, getD, drop}
-use borrow.Author.Tests.{lt-ltb, le-ltb}
+use lib.ListN.{length, getD, drop, List·getD-eq-default}
+use borrow.Author.Tests.{ltb-true, ltb-false, lt-ltb, le-ltb, le-leb}
 use Rattle.words.specs.declared.Form.{Form}
 use Rattle.words.specs.declared.Form.the-variants.{Unknown, LD, LDR, CellArithmetic, RegisterArithmetic, STD}
 use Rattle.words.specs.Instructions.{table, formOf, isCell}
-use Rattle.words.specs.Operands.{isKnown, takesRegister, isStore, heldRefusal}
+use Rattle.words.specs.Operands.{heldRefusal}
 use Rattle.words.specs.Check.{operationRefusal, registerRefusal, cellRefusal, operandRefusal}
-use Rattle.words.proofs.Known.{both, eqb-cases, known-operation, form-known}
+use Rattle.words.proofs.Known.{isKnown, both, eqb-cases, known-operation, form-known}
 use Rattle.words.proofs.Registers.{OneOfFour, is-register, no-register}
+
+abbrev takesRegister : Form → Bool
+takesRegister Unknown = false
+takesRegister LD = false
+takesRegister LDR = true
+takesRegister (CellArithmetic o) = false
+takesRegister (RegisterArithmetic o) = true
+takesRegister STD = false
+
+abbrev isStore : Form → Bool
+isStore Unknown = false
+isStore LD = false
+isStore LDR = false
+isStore (CellArithmetic o) = false
+isStore (RegisterArithmetic o) = false
+isStore STD = true
 
 -- above its area a cell is refused, whatever the limit says
 no-cell : (b : Bool) → _≡_ {A = ℕ} 4 (cond (b && false) 0 4)
@@ -29,22 +45,13 @@ even-small r h e =
     (λ (a : r ≢ 0). inr (⊎-elim inl (λ (b : r ≢ 2). inr (⊎-elim inl (λ (d : r ≢ 4). inr (omega arith)) (eqb-cases r 4))) (eqb-cases r 2)))
     (eqb-cases r 0)
 
-module _ (operands results x : ℕ) where
-  pub none-refused : (f : Form) → isKnown f ≡ false → 0 ≡ operandRefusal operands results f x
-  none-refused Unknown e = refl
-  none-refused LD e = absurd (true≢false e)
-  none-refused LDR e = absurd (true≢false e)
-  none-refused (CellArithmetic o) e = absurd (true≢false e)
-  none-refused (RegisterArithmetic o) e = absurd (true≢false e)
-  none-refused STD e = absurd (true≢false e)
-
-  pub by-kind : (f : Form) → isKnown f ≡ true → heldRefusal x (takesRegister f) (cond (isStore f) results operands) ≡ operandRefusal operands results f x
-  by-kind Unknown e = absurd (true≢false (sym e))
-  by-kind LD e = refl
-  by-kind LDR e = refl
-  by-kind (CellArithmetic o) e = refl
-  by-kind (RegisterArithmetic o) e = refl
-  by-kind STD e = refl
+by-kind : (operands results x : ℕ) (f : Form) → isKnown f ≡ true → heldRefusal x (takesRegister f) (cond (isStore f) results operands) ≡ operandRefusal operands results f x
+by-kind operands results x Unknown e = absurd (true≢false (sym e))
+by-kind operands results x LD e = refl
+by-kind operands results x LDR e = refl
+by-kind operands results x (CellArithmetic o) e = refl
+by-kind operands results x (RegisterArithmetic o) e = refl
+by-kind operands results x STD e = refl
 
 module _ (x area : ℕ) where
   pub above-limit : (r : Bool) → cond r 8 area ≤ x → cond r 3 4 ≡ heldRefusal x r area
@@ -101,7 +108,7 @@ judged x r area {limit} {odd} {number} el eo en =
       good = λ h g z. passes x area r (bitAnd x odd) m (rw el at h) g z;
     }
 
--- "the operations that take a register are the even ones", and the last one stores: row by row of the table
+-- the operations that take a register are the even ones, and the last one stores: row by row of the table
 abbrev same : Bool → Bool → Bool
 same true b = b
 same false b = not b
@@ -131,7 +138,7 @@ kinds-at (f ∷ fs) n e (suc i) h =
     let z : n + suc i ≡ suc n + i = omega arith in
     rw z (kinds-at fs (suc n) (u .1) i (le-of-suc-le-suc h))
 
-pub kind-of : (o : ℕ) → 1 ≤ o → o ≤ 11 → KindOf o (formOf o)
+kind-of : (o : ℕ) → 1 ≤ o → o ≤ 11 → KindOf o (formOf o)
 kind-of zero p h = absurd (not-suc-le-zero p)
 kind-of (suc o) p h = let z : 1 + o ≡ suc o = omega arith in rw (← z) (kinds-at (drop 1 table) 1 refl o (omega arith))
 
@@ -141,3 +148,16 @@ by-its-operation operands results x o e =
     let k = known-operation o e in
     let t = kind-of o (k .0) (k .1) in
     (λ i. heldRefusal x (sym (t .0) i) (cond (sym (t .1) i) results operands)) ∙ by-kind operands results x (formOf o) (form-known o (k .0) (k .1))
+
+-- an operation that is refused asks for nothing
+formless : (o : ℕ) → (operationRefusal o ≡ 0 → ⊥) → formOf o ≡ Unknown
+unfolding operationRefusal
+formless zero n = refl
+formless (suc o) n = go (ltb 11 (suc o)) refl
+  where
+    go : (b : Bool) → ltb 11 (suc o) ≡ b → formOf (suc o) ≡ Unknown
+    go true e = List·getD-eq-default table Unknown (ltb-true 11 (suc o) e)
+    go false e = absurd (n (rw (le-leb 1 (suc o) (omega arith), le-leb (suc o) 11 (ltb-false 11 (suc o) e))))
+
+pub by-none : (operands results x o : ℕ) → (operationRefusal o ≡ 0 → ⊥) → 0 ≡ operandRefusal operands results (formOf o) x
+by-none operands results x o n = rw (formless o n)

@@ -1,9 +1,9 @@
 // Words and lists of document 01: fields, the instruction table, and the check of a word and of a list.
 use numbers::Operation;
 ghost use mathlib.Core.Path.{_≡_};
-ghost use Rattle.words.specs.Instructions.{operationField, r1Field, operandField, formOf};
 ghost use mathlib.Core.Bool.{cond};
-ghost use Rattle.words.specs.Operands.{isKnown, takesRegister, isStore, heldRefusal};
+ghost use Rattle.words.specs.Instructions.{operationField, r1Field, operandField, formOf};
+ghost use Rattle.words.specs.Operands.{heldRefusal};
 ghost use Rattle.words.specs.Check.{operationRefusal, registerRefusal, operandRefusal, wordRefusal, listCheck, listCheckAlone};
 
 pub mod refusal;
@@ -94,45 +94,6 @@ pub fn register_refusal(register: u32) -> u32
     }
 }
 
-fn is_known(form: Form) -> bool
-    ensures { λ r. ⌜ r ≡ isKnown form ⌝ }
-{
-    match form {
-        Form::Unknown => false,
-        Form::LD => true,
-        Form::LDR => true,
-        Form::CellArithmetic(_) => true,
-        Form::RegisterArithmetic(_) => true,
-        Form::STD => true,
-    }
-}
-
-fn takes_register(form: Form) -> bool
-    ensures { λ r. ⌜ r ≡ takesRegister form ⌝ }
-{
-    match form {
-        Form::Unknown => false,
-        Form::LD => false,
-        Form::LDR => true,
-        Form::CellArithmetic(_) => false,
-        Form::RegisterArithmetic(_) => true,
-        Form::STD => false,
-    }
-}
-
-fn is_store(form: Form) -> bool
-    ensures { λ r. ⌜ r ≡ isStore form ⌝ }
-{
-    match form {
-        Form::Unknown => false,
-        Form::LD => false,
-        Form::LDR => false,
-        Form::CellArithmetic(_) => false,
-        Form::RegisterArithmetic(_) => false,
-        Form::STD => true,
-    }
-}
-
 fn chosen(test: bool, yes: usize, no: usize) -> usize
     ensures { λ r. ⌜ r ≡ cond test yes no ⌝ }
 {
@@ -163,18 +124,19 @@ fn held_refusal(operand: u32, register: bool, area: usize) -> u32
     refusal::ACCEPTED
 }
 
-// The operand's own refusal, against areas of so many operand and result cells.
-pub fn operand_refusal(form: Form, operand: u32, operands: usize, results: usize) -> u32
-    ensures { λ r. ⌜ r ≡ operandRefusal operands results form operand ⌝ }
+// The operand's own refusal, against areas of so many operand and result cells. An unknown operation has none; of the known ones those that take
+// a register are the even ones.
+pub fn operand_refusal(operation: u32, operand: u32, operands: usize, results: usize) -> u32
+    ensures { λ r. ⌜ r ≡ operandRefusal operands results (formOf operation) operand ⌝ }
 {
-    if !is_known(form) {
+    if operation_refusal(operation) != 0 {
         return refusal::ACCEPTED;
     }
-    let area = chosen(is_store(form), results, operands);
-    held_refusal(operand, takes_register(form), area)
+    let area = chosen(operation == STORE, results, operands);
+    held_refusal(operand, operation % 2 == 0, area)
 }
 
-// Inside a word 2, then R1's 3, then the operand's 3 or 4. The operations that take a register are the even ones.
+// Inside a word 2, then R1's 3, then the operand's 3 or 4.
 pub fn word_refusal(word: u32, operands: usize, results: usize) -> u32
     ensures { λ r. ⌜ r ≡ wordRefusal operands results word ⌝ }
 {
@@ -187,8 +149,7 @@ pub fn word_refusal(word: u32, operands: usize, results: usize) -> u32
     if wrong != 0 {
         return wrong;
     }
-    let area = chosen(operation == STORE, results, operands);
-    held_refusal(operand_of(word), operation % 2 == 0, area)
+    operand_refusal(operation, operand_of(word), operands, results)
 }
 
 // The list against areas of so many operand and result cells: 1 at place 4,096, else the first bad word with its place, else 0 at the length.

@@ -1,12 +1,8 @@
 use mathlib.Core.Path.{_≡_, sym, ap, _∙_}
-use Prim.Native.Nat.{ℕ, _%_}
-use lib.Dec.{eqb}
 use borrow.Author.Needs.{needs}
 use borrow.Author.Tests.{eq-eqb, ne-eqb}
 use Rattle.words.specs.Instructions.{operationField, r1Field, operandField, formOf}
 use Rattle.words.specs.Check.{operationRefusal, registerRefusal, operandRefusal, wordRefusal}
-use Rattle.words.specs.Operands.{heldRefusal}
-use Rattle.words.proofs.Operands.{by-its-operation}
 use Rattle.words.proofs.First.{last-refusal}
 use Rattle.words.proofs.word_refusal.Statement.{statement}
 use Rattle.words.proofs.word_refusal.Tie as tie
@@ -20,16 +16,14 @@ by-register : (c : tie.After-register-refusal)
     → c .register-refusal .result ≡ registerRefusal (r1Field (c .before .before .before .before .before .args .word))
 by-register c = c .register-refusal .ensures ∙ ap registerRefusal (c .before .r1-of .ensures)
 
-by-operand : (c : tie.After-held-refusal)
-    → let a = c .before .before .before .before .before .before .before .before .before .args in
-    c .held-refusal .result ≡ operandRefusal (a .operands) (a .results) (formOf (operationField (a .word))) (operandField (a .word))
+by-operand : (c : tie.After-operand-refusal)
+    → let a = c .before .before .before .before .before .before .before .before .args in
+    c .operand-refusal .result ≡ operandRefusal (a .operands) (a .results) (formOf (operationField (a .word))) (operandField (a .word))
 by-operand c =
-    let t = c .before .before .before .before .before .before .before .before in
+    let t = c .before .before .before .before .before .before .before in
     let a = t .before .args in
-    let o = t .operation-of .result in
-    c .held-refusal .ensures ∙ (λ i. heldRefusal (c .before .operand-of .ensures i) (eqb (o % 2) 0) (c .before .before .chosen .ensures i))
-    ∙ by-its-operation (a .operands) (a .results) (operandField (a .word)) o (sym (c .before .before .before .before .before .before .before .operation-refusal .ensures) ∙ c .before .before .before .before .before .before .if1 .left)
-    ∙ ap (λ (n : ℕ). operandRefusal (a .operands) (a .results) (formOf n) (operandField (a .word))) (t .operation-of .ensures)
+    c .operand-refusal .ensures
+    ∙ (λ i. operandRefusal (a .operands) (a .results) (formOf (t .operation-of .ensures i)) (c .before .operand-of .ensures i))
 
 returns : tie.Need-returns
 unfolding wordRefusal
@@ -48,7 +42,7 @@ returns-2 c =
 returns-3 : tie.Need-returns-3
 unfolding wordRefusal
 returns-3 c =
-    let e = c .before .before .before in
+    let e = c .before .before in
     rw (
       ← by-operation (e .before .before .before .before),
       eq-eqb _ 0 (e .before .before .before .if1 .left),
@@ -67,7 +61,6 @@ word-refusal-spec =
     (λ c κs. search needs)
     (λ c κs. search needs)
     returns-2
-    (λ c κs. search needs)
     (λ c κs. search needs)
     (λ c κs. search needs)
     returns-3)

@@ -11,17 +11,14 @@ returns : tie.Need-returns
 unfolding operandAt
 returns c =
     let q = c .before in
-    let f = q .before in
-    let v = f .before .before in
-    let o = rw (f .form-of .ensures) at (q .operand-refusal .ensures) in
-    rw (field-fails _ _ _ (told-as (v .before .before .number-at .ensures) (v .operand .given .1)) o (c .if1 .taken))
+    let v = q .before .before in
+    rw (field-fails _ _ _ (told-as (v .before .before .number-at .ensures) (v .operand .given .1)) (q .operand-refusal .ensures) (c .if1 .taken))
 
 word-of-requires : tie.Need-word-of-requires
 word-of-requires c κs =
     let q = c .before in
-    let f = q .before in
-    let a = f .before .before .before .before .before .before in
-    let o = sym (rw (f .form-of .ensures) at (q .operand-refusal .ensures)) ∙ c .if1 .left in
+    let a = q .before .before .before .before .before .before in
+    let o = sym (q .operand-refusal .ensures) ∙ c .if1 .left in
     let k = known-operation _ (a .pre .0) in
     (omega (arith, k .1), omega (arith, known-register _ (a .pre .1)), omega (arith, known-operand _ _ _ _ (a .pre .0) o))
 
@@ -30,10 +27,8 @@ unfolding operandAt
 returns-2 c =
     let i = c .before in
     let q = i .before in
-    let f = q .before in
-    let v = f .before .before in
-    let o = rw (f .form-of .ensures) at (q .operand-refusal .ensures) in
-    rw (field-passes _ _ _ (told-as (v .before .before .number-at .ensures) (v .operand .given .1)) o (i .if1 .left), c .word-of .ensures)
+    let v = q .before .before in
+    rw (field-passes _ _ _ (told-as (v .before .before .number-at .ensures) (v .operand .given .1)) (q .operand-refusal .ensures) (i .if1 .left), c .word-of .ensures)
 
 returns-3 : tie.Need-returns-3
 unfolding operandAt
@@ -45,7 +40,6 @@ operand-at-spec =
     (tie.spec
     (λ c κs. search needs)
     (λ c. search needs)
-    (λ c κs. search needs)
     (λ c κs. search needs)
     returns
     word-of-requires
