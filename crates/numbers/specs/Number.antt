@@ -1,5 +1,5 @@
 -- Numbers of document 01, "The section that is modelled". A number is a binary64 value in which all not-a-numbers are one,
--- so that equality is 01's sameness: "when their 64 bits are, or when both are not-a-number".
+-- so that equality is 01's sameness: "when their 64 bits are, or when both are not-a-number" (Sameness.antt).
 use Prim.Native.Nat.{ℕ}
 use lib.Ieee.{Float, binary64, add, sub, mul, div, toBits, ofBits}
 use Rattle.numbers.specs.declared.Operation.{Operation}
