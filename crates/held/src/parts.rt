@@ -13,22 +13,27 @@ impl Tag {
 
     pub const LAST_BUFFER: u8 = 6;
 
+    // "Seven is never used."
+    pub const UNUSED: u8 = 7;
+
     pub const FIRST_STATION: u8 = 8;
 
     pub const FIRST_ADDER: u8 = 10;
 
-    pub const LAST_STATION: u8 = 12;
-
     pub const LAST_ADDER: u8 = 12;
 
-    // "Seven is never used."
-    pub const UNUSED: u8 = 7;
+    pub const LAST_STATION: u8 = Self::LAST_ADDER;
+
+    // How many buffers there are, and how many stations.
+    pub const BUFFERS: usize = (Self::LAST_BUFFER - Self::FIRST_BUFFER) as usize + 1;
+
+    pub const STATIONS: usize = (Self::LAST_STATION - Self::FIRST_STATION) as usize + 1;
 
     // The tag of a buffer, by its index from 0; of no buffer, the unused one.
     pub fn of_buffer(i: usize) -> Tag
         ensures { λ r. ⌜ r .0 ≡ tagOfBuffer i ⌝ }
     {
-        if i < 6 {
+        if i < Self::BUFFERS {
             return Tag(Self::FIRST_BUFFER + i as u8);
         }
         Tag(Self::UNUSED)
@@ -38,16 +43,20 @@ impl Tag {
     pub fn of_station(i: usize) -> Tag
         ensures { λ r. ⌜ r .0 ≡ tagOfStation i ⌝ }
     {
-        if i < 5 {
+        if i < Self::STATIONS {
             return Tag(Self::FIRST_STATION + i as u8);
         }
         Tag(Self::UNUSED)
     }
 
-    // "add stations hold only add and subtract, the other two only multiply and divide": by the station's index from 0.
+    // "add stations hold only add and subtract, the other two only multiply and divide": by the station's index from 0. One that
+    // does not exist suits nothing.
     pub fn suits(index: usize, operation: Operation) -> bool
         ensures { λ r. ⌜ r ≡ order.suits index operation ⌝ }
     {
+        if Self::STATIONS <= index {
+            return false;
+        }
         let adder = (Self::FIRST_ADDER - Self::FIRST_STATION) as usize;
         match operation {
             Operation::Add => adder <= index,

@@ -1,6 +1,7 @@
 // The lowest permitted step.
 use good_order::in_good_order;
 use held::parts::Machine;
+use slots::code::CODE_LIMIT;
 use taking::taking::take_codes;
 use words::refusal;
 ghost use mathlib.Core.Path.{_≡_};
@@ -9,9 +10,6 @@ ghost use Rattle.order.specs.Entries.{lowestPermitted, lowestStep};
 ghost use Rattle.held.specs.View.{view, lent};
 ghost use Rattle.taking.specs.Inside.{lentTo};
 ghost use Rattle.machine.specs.Lowest.{viewLowest, viewLowestStep};
-
-// Every known code is below this.
-const CODE_LIMIT: u32 = 80;
 
 pub enum Lowest {
     Nothing,

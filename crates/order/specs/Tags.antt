@@ -1,7 +1,7 @@
 -- Document 01, "Tags and what the machine holds": the tags' numbers and limits, and those of the step codes, named once.
-use mathlib.Core.Bool.{Bool, true, false, not, cond}
+use mathlib.Core.Bool.{Bool, true, false, cond}
 use Prim.Native.Nat.{ℕ, _+_, _-_}
-use lib.Dec.{leb}
+use lib.Dec.{ltb}
 use Rattle.numbers.specs.declared.Operation.{Operation}
 use Rattle.numbers.specs.declared.Operation.the-variants.{Add, Subtract, Multiply, Divide}
 use Rattle.order.specs.Rows.{between}
@@ -20,8 +20,11 @@ firstStation = 8
 abbrev pub firstAdder : ℕ
 firstAdder = 10
 
+abbrev pub lastAdder : ℕ
+lastAdder = 12
+
 abbrev pub lastStation : ℕ
-lastStation = 12
+lastStation = lastAdder
 
 -- "Store buffers are 1 to 3 and have no tag."
 abbrev pub firstStore : ℕ
@@ -67,11 +70,15 @@ isAddition Subtract = true
 isAddition Multiply = false
 isAddition Divide = false
 
+-- station i, from 0, is an add station, or one of the other two; one that does not exist is neither, and suits nothing
 abbrev pub isAdder : ℕ → Bool
-isAdder i = leb firstAdder (stationTag i)
+isAdder i = between firstAdder lastAdder (stationTag i)
+
+abbrev pub isMultiplier : ℕ → Bool
+isMultiplier i = ltb (stationTag i) firstAdder
 
 abbrev pub suits : (i : ℕ) → Operation → Bool
-suits i o = cond (isAddition o) (isAdder i) (not (isAdder i))
+suits i o = cond (isAddition o) (isAdder i) (isMultiplier i)
 
 -- the codes: 0, 16+b, 32+u, 48+t, 64+s
 abbrev pub issueCode : ℕ
@@ -89,6 +96,6 @@ grantCode = 48
 abbrev pub releaseCode : ℕ
 releaseCode = 64
 
--- every known code is below this
+-- every known code is below this: the highest is that of the last store buffer's release
 abbrev pub codeLimit : ℕ
-codeLimit = 80
+codeLimit = releaseCode + lastStore + 1

@@ -3,27 +3,44 @@ use held::parts::Tag;
 ghost use mathlib.Core.Path.{_≡_};
 ghost use Rattle.slots.specs.Slots.{Read};
 
+// "0", "16+b", "32+u", "48+t", "64+s"
 const ISSUE: u32 = 0;
 
-const FIRST_ARRIVAL: u32 = 16 + Tag::FIRST_BUFFER as u32;
+const ARRIVAL: u32 = 16;
 
-const LAST_ARRIVAL: u32 = 16 + Tag::LAST_BUFFER as u32;
+const COMPLETION: u32 = 32;
 
-const FIRST_COMPLETION: u32 = 32 + Tag::FIRST_STATION as u32;
+const GRANT: u32 = 48;
 
-const LAST_COMPLETION: u32 = 32 + Tag::LAST_STATION as u32;
+const RELEASE: u32 = 64;
 
-const FIRST_BUFFER_GRANT: u32 = 48 + Tag::FIRST_BUFFER as u32;
+// "Store buffers are 1 to 3 and have no tag."
+const FIRST_STORE: u32 = 1;
 
-const LAST_BUFFER_GRANT: u32 = 48 + Tag::LAST_BUFFER as u32;
+const LAST_STORE: u32 = 3;
 
-const FIRST_STATION_GRANT: u32 = 48 + Tag::FIRST_STATION as u32;
+const FIRST_ARRIVAL: u32 = ARRIVAL + Tag::FIRST_BUFFER as u32;
 
-const LAST_STATION_GRANT: u32 = 48 + Tag::LAST_STATION as u32;
+const LAST_ARRIVAL: u32 = ARRIVAL + Tag::LAST_BUFFER as u32;
 
-const FIRST_RELEASE: u32 = 65;
+const FIRST_COMPLETION: u32 = COMPLETION + Tag::FIRST_STATION as u32;
 
-const LAST_RELEASE: u32 = 67;
+const LAST_COMPLETION: u32 = COMPLETION + Tag::LAST_STATION as u32;
+
+const FIRST_BUFFER_GRANT: u32 = GRANT + Tag::FIRST_BUFFER as u32;
+
+const LAST_BUFFER_GRANT: u32 = GRANT + Tag::LAST_BUFFER as u32;
+
+const FIRST_STATION_GRANT: u32 = GRANT + Tag::FIRST_STATION as u32;
+
+const LAST_STATION_GRANT: u32 = GRANT + Tag::LAST_STATION as u32;
+
+const FIRST_RELEASE: u32 = RELEASE + FIRST_STORE;
+
+const LAST_RELEASE: u32 = RELEASE + LAST_STORE;
+
+// Every known code is below this.
+pub const CODE_LIMIT: u32 = LAST_RELEASE + 1;
 
 // A step: the slot by its index from 0.
 pub enum Step {

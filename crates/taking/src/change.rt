@@ -22,10 +22,10 @@ ghost use Rattle.taking.specs.Changes.{Makes};
 
 pub enum Change {
     Refused(u32),
-    // a load or another arithmetic of a cell: R1, the cell, the buffer; then the station
+    // a load, or arithmetic with a cell: R1, the cell, the buffer; of arithmetic also the station
     Loads(usize, usize, usize),
     TakesCell(Operation, usize, usize, usize, usize),
-    // R1 and the other register; then the station
+    // a copy, or arithmetic with a register: R1 and the other register; of arithmetic also the station
     Copies(usize, usize),
     TakesRegister(Operation, usize, usize, usize),
     // R1, the cell and the store buffer

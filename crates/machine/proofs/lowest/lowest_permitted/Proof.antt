@@ -8,6 +8,7 @@ use borrow.Author.Tests.{eq-eqb, ne-eqb}
 use lib.Dec.{eqb}
 use lib.Ieee.{Float}
 use Rattle.order.specs.Rows.{first}
+use Rattle.order.specs.Tags.{codeLimit}
 use Rattle.order.specs.Issue.{isTaken}
 use Rattle.order.specs.Binary64.{binary64}
 use Rattle.order.specs.Steps.{perform}
@@ -27,7 +28,7 @@ abbrev permits : Machine → List ℕ → List Float → (results code : ℕ) �
 permits m words operands results code = isTaken (perform binary64 (lentTo words operands results) (view m) code)
 
 lowest-is : (m : Machine) (words : List ℕ) (operands : List Float) (results : ℕ)
-    → lowestPermitted binary64 (lentTo words operands results) (view m) ≡ first (permits m words operands results) 0 80
+    → lowestPermitted binary64 (lentTo words operands results) (view m) ≡ first (permits m words operands results) 0 codeLimit
 unfolding lowestPermitted
 lowest-is m words operands results = refl
 
@@ -38,13 +39,13 @@ permitted t m words operands results code h e =
     ap (λ (n : ℕ). eqb n 0) (ap (λ (t : Taken). t .refusal) e ∙ one-step (lentTo words operands results) (view m) code h .refusal)
 
 abbrev Inv-loop : tie.InvT-loop
-Inv-loop m words operands results code₀ code = Searching (permits m words operands results) 80 code
+Inv-loop m words operands results code₀ code = Searching (permits m words operands results) codeLimit code
 
 abbrev μ-loop : tie.MeasureT-loop
-μ-loop m words operands results code₀ code = 80 - code
+μ-loop m words operands results code₀ code = codeLimit - code
 
 loop-holds : tie.Need-loop-holds Inv-loop μ-loop
-loop-holds c = searching-none _ 80
+loop-holds c = searching-none _ codeLimit
 
 returns : tie.Need-returns Inv-loop μ-loop
 returns c =
