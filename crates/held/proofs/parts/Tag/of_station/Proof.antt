@@ -1,3 +1,4 @@
+use native.Mathlib.Omega.{arith}
 use borrow.Author.Tests.{lt-ltb, le-ltb}
 use borrow.Author.Needs.{needs}
 use Rattle.held.proofs.parts.Tag.of_station.Statement.{statement}
@@ -10,10 +11,10 @@ add-t4 : tie.Need-add-t4
 add-t4 c = search needs
 
 returns : tie.Need-returns
-returns c = rw (lt-ltb _ 5 (c .if1 .taken))
+returns c = rw (lt-ltb (c .before .args .i) 5 (omega arith))
 
 returns-2 : tie.Need-returns-2
-returns-2 c = rw (le-ltb _ 5 (c .if1 .left))
+returns-2 c = rw (le-ltb (c .before .args .i) 5 (omega arith))
 
 pub of-station-spec : {M : Type 1} → statement M
 of-station-spec = tie.close (tie.spec cast-t3 add-t4 returns returns-2)

@@ -1,20 +1,21 @@
+use native.Mathlib.Omega.{arith}
 use borrow.Author.Needs.{needs}
 use Rattle.held.proofs.Adders.{no-station, adder-index, other-index}
 use Rattle.held.proofs.parts.Tag.suits.Statement.{statement}
 use Rattle.held.proofs.parts.Tag.suits.Tie as tie
 
 returns : tie.Need-returns
-returns c = no-station (c .before .args .index) (c .if1 .taken) (c .before .args .operation)
+returns c = no-station (c .before .args .index) (omega arith) (c .before .args .operation)
 
 returns-2 : tie.Need-returns-2
 returns-2 c =
     let k = c .before .before in
-    rw (c .enum-told .given .1) (adder-index (k .before .args .index) (k .if1 .left))
+    rw (c .enum-told .given .1) (adder-index (k .before .args .index) (omega arith))
 
 returns-3 : tie.Need-returns-3
 returns-3 c =
     let k = c .before .before in
-    rw (c .enum-told2 .given .1) (adder-index (k .before .args .index) (k .if1 .left))
+    rw (c .enum-told2 .given .1) (adder-index (k .before .args .index) (omega arith))
 
 returns-4 : tie.Need-returns-4
 returns-4 c = rw (c .enum-told3 .given .1) (other-index (c .before .before .before .args .index))
