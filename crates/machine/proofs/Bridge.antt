@@ -3,7 +3,7 @@ use mathlib.Core.Path.{_≡_, refl, sym, ap, _∙_}
 use mathlib.Core.Bool.{Bool, true, false, cond, not}
 use mathlib.Core.Option.{Option, none, some}
 use mathlib.Core.List.{List, [], _∷_}
-use Prim.Native.Nat.{ℕ, zero, suc}
+use Prim.Native.Nat.{ℕ, zero, suc, _+_}
 use native.Mathlib.Omega.{arith}
 use lib.Dec.{eqb}
 use lib.Ieee.{Float}
@@ -12,7 +12,7 @@ use borrow.Author.Tests.{eqb-true, eqb-false}
 use Rattle.order.specs.Machine as order
 use Rattle.order.specs.Machine.{Lent}
 use Rattle.order.specs.Binary64.{binary64}
-use Rattle.order.specs.Issue.{Answer}
+use Rattle.order.specs.Issue.{Answer, isTaken}
 use Rattle.order.specs.Steps.{step}
 use Rattle.order.specs.OneAtATime.{Run}
 use Rattle.order.specs.Entries.{listRefusal, Fresh, fresh}
@@ -24,7 +24,7 @@ use Rattle.held.specs.declared.start.FreshMachine.{FreshMachine}
 use Rattle.held.specs.View.{view, viewReleased, viewStepped, lent}
 use Rattle.held.specs.Answers.{viewFresh}
 use Rattle.machine.specs.Step.{StepAnswer}
-use Rattle.machine.specs.Chain.{Stand, seen, Chained, here, then, Bridge, DemandThree}
+use Rattle.machine.specs.Chain.{Stand, seen, Chained, here, then, takenIn, Bridge, DemandThree}
 
 -- a release leaves the result area as long as it was
 written-long : (cells : List Float) (o : Option (order.Released Float)) → length (written cells o) ≡ length cells
@@ -47,14 +47,27 @@ module _ (words : List ℕ) (operands : List Float) where
       ap (after (seen s)) (sym (a .answer))
       ∙ ap (λ (c : List Float). record { machine = view (r .machine); cells = c; log = logged (s .log) (viewReleased (r .released)) }) (sym (a .after))
 
+  -- what is made of the state after one code asked is made of where its answer leads
+  onward : {B : Type 0} (made : Lent Float → State Float → B) (s : Stand) (code : ℕ) (r : Stepped) (cells : List Float)
+      → StepAnswer words operands (s .machine) (s .cells) code r cells
+      → made (lent words operands (s .cells)) (ask binary64 (lent words operands (s .cells)) (seen s) code)
+      ≡ made (lent words operands cells) (seen (next s r cells))
+  onward made s code r cells a =
+      let long = sym (ap length (a .after) ∙ written-long (s .cells) (viewReleased (r .released))) in
+      (λ i. made (same-lent (s .cells) cells long i) (one s code r cells a i))
+
   pub bridge : Bridge words operands
   bridge s t codes here = refl
   bridge s t codes (then {code = code} {codes = rest} r cells a chain) =
-      let L = lent words operands (s .cells) in
-      ap (λ (z : State Float). asked binary64 L z rest) (one s code r cells a)
-      ∙ ap (λ (l : Lent Float). asked binary64 l (seen (next s r cells)) rest)
-      (same-lent (s .cells) cells (sym (ap length (a .after) ∙ written-long (s .cells) (viewReleased (r .released)))))
-      ∙ bridge (next s r cells) t rest chain
+      onward (λ l z. asked binary64 l z rest) s code r cells a ∙ bridge (next s r cells) t rest chain
+
+  -- as many are taken on paper as answers say so
+  taken-so : (s t : Stand) (codes : List ℕ) (chain : Chained words operands s codes t)
+      → takenOf binary64 (lent words operands (s .cells)) (seen s) codes ≡ takenIn words operands s t codes chain
+  taken-so s t codes here = refl
+  taken-so s t codes (then {code = code} {codes = rest} r cells a chain) =
+      let later = onward (λ l z. takenOf binary64 l z rest) s code r cells a ∙ taken-so (next s r cells) t rest chain in
+      (λ i. cond (isTaken (sym (a .answer) i)) 1 0 + later i)
 
 -- an accepted fresh machine: the list passes
 fresh-passes : (L : Lent Float) (starts : List Float) → fresh binary64 L starts .refusal ≡ 0 → listRefusal binary64 L ≡ 0
@@ -74,4 +87,5 @@ demand-three words operands starts cells four f made ok t codes chain =
     ap (λ (x : Fresh Float). record { machine = x .machine; cells = cells; log = [] }) (sym made) in
     let reached : asked binary64 L (begin binary64 L start) codes ≡ seen t =
     ap (λ (z : State Float). asked binary64 L z codes) begun ∙ bridge words operands (record { machine = f .machine; cells = cells; log = [] }) t codes chain in
-    rw reached at (orderTheorem binary64 L start passes four refl codes)
+    let many = ap (λ (z : State Float). takenOf binary64 L z codes) begun ∙ taken-so words operands (record { machine = f .machine; cells = cells; log = [] }) t codes chain in
+    rw (reached, many) at (orderTheorem binary64 L start passes four refl codes)

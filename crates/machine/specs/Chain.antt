@@ -1,7 +1,9 @@
 -- Answers of `step`, chained over any codes; and demand 3 of them. Nothing is said of how an answer was made: only that it meets its contract.
 use mathlib.Core.Path.{_≡_}
+use mathlib.Core.Bool.{cond}
 use mathlib.Core.List.{List, [], _∷_, _++_}
-use Prim.Native.Nat.{ℕ}
+use Prim.Native.Nat.{ℕ, _+_}
+use lib.Dec.{eqb}
 use lib.Ieee.{Float}
 use lib.ListN.{length}
 use Rattle.order.specs.Machine as order
@@ -9,7 +11,7 @@ use Rattle.order.specs.Tags.{registerCount}
 use Rattle.order.specs.Binary64.{binary64}
 use Rattle.order.specs.OneAtATime.{Run}
 use Rattle.order.specs.Entries.{fresh}
-use Rattle.order.specs.Asked.{State, logged, asked, takenOf, begin}
+use Rattle.order.specs.Asked.{State, logged, asked}
 use Rattle.order.specs.Statement.{Outcome}
 use Rattle.held.specs.declared.parts.Machine.{Machine}
 use Rattle.held.specs.declared.parts.Stepped.{Stepped}
@@ -37,6 +39,13 @@ module _ (words : List ℕ) (operands : List Float) where
         → Chained (record { machine = r .machine; cells = cells; log = logged (s .log) (viewReleased (r .released)) }) codes t
         → Chained s (code ∷ codes) t
 
+  -- how many of the answers are of steps taken
+  abbrev pub takenIn : (s t : Stand) (codes : List ℕ) → Chained s codes t → ℕ
+  takenIn s t codes here = 0
+  takenIn s t codes (then {codes = rest} r cells a chain) =
+      cond (eqb (r .refusal) 0) 1 0
+      + takenIn (record { machine = r .machine; cells = cells; log = logged (s .log) (viewReleased (r .released)) }) t rest chain
+
   -- THE BRIDGE: chained answers are the theory's `asked`, cells and releases with them
   abbrev pub Bridge : Type 0
   Bridge =
@@ -48,7 +57,7 @@ module _ (words : List ℕ) (operands : List Float) where
       (starts cells : List Float) → length starts ≡ registerCount → (f : FreshMachine)
       → viewFresh f ≡ fresh binary64 (lent words operands cells) starts
       → f .refusal ≡ 0
-      → (t : Stand) (codes : List ℕ) → Chained (record { machine = f .machine; cells = cells; log = [] }) codes t
+      → (t : Stand) (codes : List ℕ) (chain : Chained (record { machine = f .machine; cells = cells; log = [] }) codes t)
       → let L = lent words operands cells in
       let start : Run Float = record { registers = starts; cells = cells } in
-      Outcome binary64 L start (seen t) (takenOf binary64 L (begin binary64 L start) codes)
+      Outcome binary64 L start (seen t) (takenIn (record { machine = f .machine; cells = cells; log = [] }) t codes chain)
