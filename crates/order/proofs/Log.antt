@@ -16,7 +16,7 @@ use Rattle.order.specs.Machine.{Kind, Lent, num, StoreBuffer, freeStore,
 use Rattle.order.specs.Issue.{instructionAt}
 use Rattle.order.specs.Steps.{giveStore}
 use Rattle.order.specs.Asked.{written, logged, writtenAll}
-use Rattle.order.specs.Statement.{recordsOf, isStore}
+use Rattle.order.specs.Statement.{recordsOf, recordsDue}
 use Rattle.words.proofs.Known.{eqb-cases}
 use Rattle.order.proofs.Rows.{bool-cases, sum-swap, sum-map, sum-snoc, sum-zero}
 use Rattle.order.proofs.Words.{no-instruction}
@@ -42,10 +42,10 @@ holdsPlace q (live p c x) = cond (eqb p q) 1 0
 module _ (K : Kind) (L : Lent (K .Num)) where
   -- the stores of place q among the first n instructions: one or none
   abbrev issuedOf : (n q : ℕ) → ℕ
-  issuedOf n q = cond (ltb q n) (isStore (instructionAt K L q)) 0
+  issuedOf n q = cond (ltb q n) (recordsDue (instructionAt K L q)) 0
 
   -- one instruction more
-  issued-next : (n q k : ℕ) → isStore (instructionAt K L n) ≡ k → issuedOf (suc n) q ≡ issuedOf n q + cond (eqb n q) k 0
+  issued-next : (n q k : ℕ) → recordsDue (instructionAt K L n) ≡ k → issuedOf (suc n) q ≡ issuedOf n q + cond (eqb n q) k 0
   issued-next n q k e =
       ⊎-elim
       (λ (d : q ≡ n). rw (d, lt-ltb n (suc n) (omega arith), le-ltb n n (omega arith), eq-eqb n n refl) (omega (arith, e)))
@@ -62,20 +62,20 @@ module _ (K : Kind) (L : Lent (K .Num)) where
   Balanced m log = (q : ℕ) → recordsOf q log + sum (holdsPlace q) (m .stores) ≡ issuedOf (m .next) q
 
   module _ (m : Machine (K .Num)) (S : Shape m) (log : List (Released (K .Num))) (B : Balanced m log) where
-    quiet-issue : isStore (instructionAt K L (m .next)) ≡ 0 → (q : ℕ) → recordsOf q log + sum (holdsPlace q) (m .stores) ≡ issuedOf (suc (m .next)) q
+    quiet-issue : recordsDue (instructionAt K L (m .next)) ≡ 0 → (q : ℕ) → recordsOf q log + sum (holdsPlace q) (m .stores) ≡ issuedOf (suc (m .next)) q
     quiet-issue e q = B q ∙ omega (arith, issued-next (m .next) q 0 e, zero-or (eqb (m .next) q))
 
     issue-balanced : (i : Instruction) (b s t : ℕ) → instructionAt K L (m .next) ≡ i → Room m i b s t → Balanced (issued K m i b s t) log
     issue-balanced noInstruction b s t e r = absurd r
-    issue-balanced (load a c) b s t e r = quiet-issue (ap isStore e)
-    issue-balanced (copy a x) b s t e r = quiet-issue (ap isStore e)
-    issue-balanced (cellArithmetic o a c) b s t e r = quiet-issue (ap isStore e)
-    issue-balanced (registerArithmetic o a x) b s t e r = quiet-issue (ap isStore e)
+    issue-balanced (load a c) b s t e r = quiet-issue (ap recordsDue e)
+    issue-balanced (copy a x) b s t e r = quiet-issue (ap recordsDue e)
+    issue-balanced (cellArithmetic o a c) b s t e r = quiet-issue (ap recordsDue e)
+    issue-balanced (registerArithmetic o a x) b s t e r = quiet-issue (ap recordsDue e)
     issue-balanced (store a c) b s t e r = λ q.
         omega (
           arith,
           B q,
-          issued-next (m .next) q 1 (ap isStore e),
+          issued-next (m .next) q 1 (ap recordsDue e),
           sum-swap (holdsPlace q) freeStore (m .stores) t freeStore (live (m .next) c (registerAt K m a)) (omega (arith, r .1 .0, S)) (r .1 .1),
         )
 
@@ -101,22 +101,22 @@ module _ (K : Kind) (L : Lent (K .Num)) where
         )
 
     -- never twice
-    pub at-most-once : (q : ℕ) → recordsOf q log ≤ isStore (instructionAt K L q)
+    pub at-most-once : (q : ℕ) → recordsOf q log ≤ recordsDue (instructionAt K L q)
     at-most-once q = go (ltb q (m .next)) refl
       where
-        go : (b : Bool) → ltb q (m .next) ≡ b → recordsOf q log ≤ isStore (instructionAt K L q)
+        go : (b : Bool) → ltb q (m .next) ≡ b → recordsOf q log ≤ recordsDue (instructionAt K L q)
         go true e = omega (arith, rw e at (B q))
         go false e = omega (arith, rw e at (B q))
 
     -- and once drained, each once
-    pub each-once : m .next ≡ length (L .words) → Still m → (q : ℕ) → recordsOf q log ≡ isStore (instructionAt K L q)
+    pub each-once : m .next ≡ length (L .words) → Still m → (q : ℕ) → recordsOf q log ≡ recordsDue (instructionAt K L q)
     each-once l z q =
         let h : sum (holdsPlace q) (m .stores) ≡ 0 = sum-zero (holdsPlace q) freeStore (m .stores) (λ i. ap (holdsPlace q) (z .noStore i)) in
         go (ltb q (m .next)) refl h
       where
-        past-end : m .next ≤ q → isStore (instructionAt K L q) ≡ 0
-        past-end k = ap isStore (ap decode (List·getD-eq-default (L .words) 0 (omega arith)) ∙ no-instruction)
+        past-end : m .next ≤ q → recordsDue (instructionAt K L q) ≡ 0
+        past-end k = ap recordsDue (ap decode (List·getD-eq-default (L .words) 0 (omega arith)) ∙ no-instruction)
 
-        go : (b : Bool) → ltb q (m .next) ≡ b → sum (holdsPlace q) (m .stores) ≡ 0 → recordsOf q log ≡ isStore (instructionAt K L q)
+        go : (b : Bool) → ltb q (m .next) ≡ b → sum (holdsPlace q) (m .stores) ≡ 0 → recordsOf q log ≡ recordsDue (instructionAt K L q)
         go true e h = omega (arith, rw e at (B q))
         go false e h = omega (arith, rw e at (B q), past-end (ltb-false q (m .next) e))

@@ -94,14 +94,14 @@ RefusedEntries K L =
 abbrev pub recordsOf : {A : Type 0} → (q : ℕ) → List (Released A) → ℕ
 recordsOf q log = sum (λ r. cond (eqb (r .place) q) 1 0) log
 
--- 1 for a store, 0 for any other instruction
-abbrev pub isStore : Instruction → ℕ
-isStore noInstruction = 0
-isStore (load r c) = 0
-isStore (store r c) = 1
-isStore (copy r x) = 0
-isStore (cellArithmetic o r c) = 0
-isStore (registerArithmetic o r x) = 0
+-- how many it is to have: one of a store, none of any other instruction
+abbrev pub recordsDue : Instruction → ℕ
+recordsDue noInstruction = 0
+recordsDue (load r c) = 0
+recordsDue (store r c) = 1
+recordsDue (copy r x) = 0
+recordsDue (cellArithmetic o r c) = 0
+recordsDue (registerArithmetic o r x) = 0
 
 module _ (K : Kind) (L : Lent (K .Num)) (start : Run (K .Num)) where
   -- a record is that of a store of the list: its place, its cell, and R1's number there in the one-at-a-time run
@@ -117,7 +117,7 @@ module _ (K : Kind) (L : Lent (K .Num)) (start : Run (K .Num)) where
     -- the log is right, and it is all that was written; no store is released twice
     pub recordsRight : Every OfStore (s .log)
     pub cellsAreLog : s .cells ≡ writtenAll (start .cells) (s .log)
-    pub atMostOnce : (q : ℕ) → recordsOf q (s .log) ≤ isStore (instructionAt K L q)
+    pub atMostOnce : (q : ℕ) → recordsOf q (s .log) ≤ recordsDue (instructionAt K L q)
     -- until drained some code is taken; a refused code changes nothing
     pub goesOn : isDrained K L (s .machine) ≡ false → (code : ℕ) × Permitted K L (s .machine) code
     pub refusedLeave : (code : ℕ) → step K L (s .machine) code .refusal ≢ 0 → ask K L s code ≡ s
@@ -129,7 +129,7 @@ module _ (K : Kind) (L : Lent (K .Num)) (start : Run (K .Num)) where
     -- drained: registers and cells are those of the one-at-a-time run, and each store of the list has one record
     pub registersRight : isDrained K L (s .machine) ≡ true → s .machine .registers ≡ map num (oneAtATime K L start .run .registers)
     pub cellsRight : isDrained K L (s .machine) ≡ true → s .cells ≡ oneAtATime K L start .run .cells
-    pub eachOnce : isDrained K L (s .machine) ≡ true → (q : ℕ) → recordsOf q (s .log) ≡ isStore (instructionAt K L q)
+    pub eachOnce : isDrained K L (s .machine) ≡ true → (q : ℕ) → recordsOf q (s .log) ≡ recordsDue (instructionAt K L q)
 
 -- THE ORDER THEOREM: over every kind of number, every list that passes against its areas, every four start numbers, every start cells as
 -- long as their area, and every row of codes
