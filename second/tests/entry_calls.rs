@@ -1,7 +1,7 @@
 //! Random calls of the entries: what they reach, and that a library with a fault is found out.
 
 use second::compare::entries::difference;
-use second::entries::machine_words::machine_of;
+use second::entries::machine_words::{machine_of, WORDS};
 use second::entries::{own, Answering, Call, Entry};
 use second::machine::Step;
 use second::numbers::Number;
@@ -9,15 +9,15 @@ use second::random::calls::Calls;
 use second::random::Prng;
 use std::collections::BTreeSet;
 
-/// Every answer that 01 lets an entry give.
+/// Every answer that an entry may give: 01's, and 11 for a row too short.
 fn possible(entry: Entry) -> &'static [u32] {
     match entry {
         Entry::ReadList => &[0, 1, 2, 3, 4, 8, 9, 10, 11],
         Entry::WriteList => &[0, 1, 2, 3, 4, 11],
-        Entry::Fresh | Entry::OneAtATime => &[0, 1, 2, 3, 4],
-        Entry::Step => &[0, 1, 2, 3, 4, 5, 6, 7],
+        Entry::Fresh | Entry::OneAtATime => &[0, 1, 2, 3, 4, 11],
+        Entry::Step => &[0, 1, 2, 3, 4, 5, 6, 7, 11],
         Entry::GoodOrder | Entry::Drained => &[0, 1],
-        Entry::StepsLeft | Entry::LowestStep => &[0, 1, 2, 3, 4, 6],
+        Entry::StepsLeft | Entry::LowestStep => &[0, 1, 2, 3, 4, 6, 11],
         Entry::Run => &[0, 1, 2, 3, 4, 5, 6, 7, 8, 9, 11],
     }
 }
@@ -93,6 +93,18 @@ fn equal_cells_pass(call: &mut Call) -> u32 {
     own::answer(call)
 }
 
+/// A machine's row too short is filled up, and what there is no room for is lost.
+fn loses_what_has_no_room(call: &mut Call) -> u32 {
+    let length = call.machine.len();
+    if call.entry != Entry::Step || WORDS <= length {
+        return own::answer(call);
+    }
+    call.machine.resize(WORDS, 0);
+    let returned = own::answer(call);
+    call.machine.truncate(length);
+    returned
+}
+
 fn not_a_number_is_zero(call: &mut Call) -> u32 {
     let returned = own::answer(call);
     for pattern in call.log.iter_mut().filter(|word| f64::from_bits(**word).is_nan()) {
@@ -103,11 +115,12 @@ fn not_a_number_is_zero(call: &mut Call) -> u32 {
 
 #[test]
 fn faults_are_found() {
-    let faults: [(Answering, Entry); 5] = [
+    let faults: [(Answering, Entry); 6] = [
         (highest_for_lowest, Entry::LowestStep),
         (refused_release_writes, Entry::Step),
         (writer_one_byte_too_far, Entry::WriteList),
         (equal_cells_pass, Entry::GoodOrder),
+        (loses_what_has_no_room, Entry::Step),
         (not_a_number_is_zero, Entry::Run),
     ];
     for (library, entry) in faults {

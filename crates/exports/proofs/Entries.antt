@@ -1,5 +1,5 @@
 -- What the entries by value answer, in words.
-use mathlib.Core.Path.{_≡_, ap, _∙_}
+use mathlib.Core.Path.{_≡_, sym, ap, _∙_}
 use mathlib.Core.Bool.{cond, not}
 use mathlib.Core.List.{List, [], _∷_}
 use Prim.Native.Nat.{ℕ}
@@ -7,6 +7,7 @@ use lib.Dec.{eqb}
 use lib.Ieee.{Float}
 use lib.ListN.{length}
 use lib.Seq.{sets}
+use borrow.Author.Tests.{eq-eqb, ne-eqb}
 use Rattle.order.specs.Machine as order
 use Rattle.order.specs.Binary64.{binary64}
 use Rattle.order.specs.Issue.{Answer, isTaken}
@@ -21,19 +22,38 @@ use Rattle.machine.specs.declared.advance.Progress.{Progress}
 use Rattle.images.specs.Image.{machineIn, imageOver}
 use Rattle.exports.specs.Entries.{releasedWords, StepWords, stepIn, RunWords, RunLogged, runIn}
 
+-- a row that was altered by an answer, as the answer on paper alters it
+pub carried : {A B : Type 0} (altered : A → B → B) {row row′ : B} {x y : A} → row′ ≡ altered x row → x ≡ y → row′ ≡ altered y row
+carried altered {row = row} e same = e ∙ (λ i. altered (same i) row)
+
 module _ {words : List ℕ} {operands : List Float} {image : List ℕ} {m : Machine} (held : view m ≡ machineIn image) where
-  pub step-words : {cells cells′ : List Float} {code : ℕ} {s : Stepped} {released told image′ released′ : List ℕ} → StepAnswer words operands m cells code s cells′
-      → image′ ≡ cond (eqb (s .refusal) 0) (imageOver (view (s .machine)) image) image → told ≡ releasedWords (viewReleased (s .released)) → released′ ≡ sets released 0 told
-      → StepWords (stepIn words operands image cells code) image cells released (s .refusal) image′ cells′ released′
-  step-words {cells = cells} {code = code} {s = s} {released = released} a i t r =
-      let e : viewStepped s ≡ stepIn words operands image cells code =
-      a .answer ∙ ap (λ (v : order.Machine Float). step binary64 (lent words operands cells) v code) held in
-      record {
-        answered = ap (λ (x : Answer Float). x .refusal) e;
-        machine = i ∙ ap (λ (x : Answer Float). cond (isTaken x) (imageOver (x .machine) image) image) e;
-        after = a .after ∙ ap (λ (x : Answer Float). written cells (x .released)) e;
-        told = r ∙ ap (sets released 0) t ∙ ap (λ (x : Answer Float). sets released 0 (releasedWords (x .released))) e;
-      }
+  module _ {cells cells′ : List Float} {code : ℕ} {s : Stepped} (a : StepAnswer words operands m cells code s cells′) where
+    -- rows that are altered where the step was taken, and else as found
+    step-words : {released image′ released′ : List ℕ} → image′ ≡ cond (eqb (s .refusal) 0) (imageOver (view (s .machine)) image) image
+        → released′ ≡ cond (eqb (s .refusal) 0) (sets released 0 (releasedWords (viewReleased (s .released)))) released
+        → StepWords (stepIn words operands image cells code) image cells released (s .refusal) image′ cells′ released′
+    step-words {released = released} i r =
+        let answer : viewStepped s ≡ stepIn words operands image cells code =
+        a .answer ∙ ap (λ (v : order.Machine Float). step binary64 (lent words operands cells) v code) held in
+        record {
+          answered = ap (λ (x : Answer Float). x .refusal) answer;
+          machine = i ∙ ap (λ (x : Answer Float). cond (isTaken x) (imageOver (x .machine) image) image) answer;
+          after = a .after ∙ ap (λ (x : Answer Float). written cells (x .released)) answer;
+          told = r ∙ ap (λ (x : Answer Float). cond (isTaken x) (sets released 0 (releasedWords (x .released))) released) answer;
+        }
+
+    pub step-refused : {released : List ℕ} → (s .refusal ≡ 0 → ⊥) → StepWords (stepIn words operands image cells code) image cells released (s .refusal) image cells′ released
+    step-refused {released} n =
+        let no = sym (ne-eqb (s .refusal) 0 n) in
+        step-words (λ i. cond (no i) (imageOver (view (s .machine)) image) image) (λ i. cond (no i) (sets released 0 (releasedWords (viewReleased (s .released)))) released)
+
+    pub step-taken : {released told image′ released′ : List ℕ} → s .refusal ≡ 0 → image′ ≡ imageOver (view (s .machine)) image
+        → told ≡ releasedWords (viewReleased (s .released)) → released′ ≡ sets released 0 told
+        → StepWords (stepIn words operands image cells code) image cells released 0 image′ cells′ released′
+    step-taken {released = released} z i t r =
+        let yes = sym (eq-eqb (s .refusal) 0 z) in
+        rw z at (step-words (i ∙ (λ j. cond (yes j) (imageOver (view (s .machine)) image) image))
+        (r ∙ ap (sets released 0) t ∙ (λ j. cond (yes j) (sets released 0 (releasedWords (viewReleased (s .released)))) released)))
 
 -- what the loop comes to, in words
 pub run-words : {w : Ran Float} {image log answer image′ log′ answer′ : List ℕ} {r : Progress} {cells′ : List Float} → RunLogged w log r cells′ log′

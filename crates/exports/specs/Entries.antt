@@ -1,10 +1,10 @@
 -- What each exported entry answers and leaves, in words: the answers of crates files and order, of the machine that the image holds.
 use mathlib.Core.Path.{_≡_}
-use mathlib.Core.Bool.{cond, not}
+use mathlib.Core.Bool.{Bool, true, false, cond, not}
 use mathlib.Core.Option.{Option, none, some}
 use mathlib.Core.List.{List, [], _∷_, _++_}
 use Prim.Native.Nat.{ℕ, _/_}
-use lib.Dec.{eqb}
+use lib.Dec.{eqb, leb}
 use lib.Ieee.{Float}
 use lib.ListN.{length}
 use lib.Seq.{sets}
@@ -20,6 +20,31 @@ use Rattle.held.specs.View.{view, lent}
 use Rattle.machine.specs.declared.advance.Progress.{Progress}
 use Rattle.images.specs.Rows.{numberAt}
 use Rattle.images.specs.Image.{machineIn, imageOver}
+
+-- 11: "the lent buffer .. is too small"; whether a row has room for so many
+abbrev pub fits : {A : Type 0} → (count : ℕ) → List A → Bool
+fits count row = leb count (length row)
+
+-- what is promised of rows with room for what they are to hold; without it a call is refused with 11 before anything else, and every row is as found
+pub record ByRoom (room : Bool) (Roomy Short : Type 0) : Type 0 where
+  pub roomy : room ≡ true → Roomy
+  pub short : room ≡ false → Short
+
+-- the words of a row of answers: count or length, and place; what was released; the steps left; the lowest step; steps done, byte place and records
+abbrev pub placedLength : ℕ
+placedLength = 2
+
+abbrev pub releasedLength : ℕ
+releasedLength = 4
+
+abbrev pub leftLength : ℕ
+leftLength = 1
+
+abbrev pub lowestLength : ℕ
+lowestLength = 2
+
+abbrev pub ranLength : ℕ
+ranLength = 3
 
 abbrev pub recordWords : Released Float → List ℕ
 recordWords r = r .place ∷ r .cell ∷ patternOf (r .number) ∷ []
@@ -47,12 +72,12 @@ lowestWords (some code) = 1 ∷ code ∷ []
 abbrev pub startsIn : List Float → List Float
 startsIn row = numberAt row 0 ∷ numberAt row 1 ∷ numberAt row 2 ∷ numberAt row 3 ∷ []
 
--- ONE STEP: a is its answer on paper; the image, the result cells and the released row before and after. A refused step leaves the image word for word.
+-- ONE STEP: a is its answer on paper; the image, the result cells and the released row before and after. A refused step leaves all three word for word.
 pub record StepWords (a : Answer Float) (image : List ℕ) (cells : List Float) (released : List ℕ) (number : ℕ) (image′ : List ℕ) (cells′ : List Float) (released′ : List ℕ) : Type 0 where
   pub answered : number ≡ a .refusal
   pub machine : image′ ≡ cond (isTaken a) (imageOver (a .machine) image) image
   pub after : cells′ ≡ written cells (a .released)
-  pub told : released′ ≡ sets released 0 (releasedWords (a .released))
+  pub told : released′ ≡ cond (isTaken a) (sets released 0 (releasedWords (a .released))) released
 
 abbrev pub stepIn : (words : List ℕ) (operands : List Float) (image : List ℕ) (cells : List Float) (code : ℕ) → Answer Float
 stepIn words operands image cells code = step binary64 (lent words operands cells) (machineIn image) code

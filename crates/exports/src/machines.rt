@@ -1,26 +1,37 @@
 // The entries on a machine that take no schedule, and the one-at-a-time run.
 use held::parts::Record;
 use held::parts::Released;
+use images::image::WORDS;
 use images::image::machine_in;
 use images::row::number_at;
 use images::row::put_number;
 use images::row::put_words;
 use images::spelling::put_machine;
-use images::spelling::put_taken;
 use machine::lowest::Lowest;
 use words::refusal;
 ghost use mathlib.Core.Path.{_≡_};
+ghost use mathlib.Core.Bool.{_&&_};
 ghost use mathlib.Core.List.{[], _∷_};
 ghost use lib.ListN.{length};
 ghost use lib.Seq.{sets};
+ghost use Rattle.order.specs.Tags.{registerCount};
 ghost use Rattle.order.specs.Binary64.{binary64};
 ghost use Rattle.order.specs.Steps.{inOrder};
 ghost use Rattle.order.specs.GoodOrder.{drained};
 ghost use Rattle.order.specs.Entries.{fresh, stepsLeft, lowestStep};
 ghost use Rattle.held.specs.View.{lent, viewRecord, viewReleased};
 ghost use Rattle.machine.specs.Lowest.{viewLowest};
-ghost use Rattle.images.specs.Image.{machineIn, imageOver};
-ghost use Rattle.exports.specs.Entries.{recordWords, releasedWords, lowestWords, startsIn, StepWords, stepIn, aloneIn};
+ghost use Rattle.images.specs.Image.{imageLength, machineIn, imageOver};
+ghost use Rattle.exports.specs.Entries.{fits, ByRoom, releasedLength, leftLength, lowestLength, recordWords, releasedWords, lowestWords, startsIn, StepWords, stepIn, aloneIn};
+
+// The words of each row: start numbers, what was released, the steps left, the lowest step.
+const REGISTERS: usize = 4;
+
+const RELEASED: usize = 4;
+
+const LEFT: usize = 1;
+
+const LOWEST: usize = 2;
 
 pub(crate) fn record_words(made: Record) -> [u64; 3]
     ensures { λ r. ⌜ r ≡ recordWords (viewRecord made) ⌝ }
@@ -73,9 +84,17 @@ pub extern "C" fn wethertide_fresh(
     starts: &[f64],
     machine: &mut [u64],
 ) -> u32
-    ensures { λ r. ⌜ (r ≡ fresh binary64 (lent (now (words .entry)) (now (operands .entry)) (now (results .entry))) (startsIn (now (starts .entry))) .refusal)
-        × (now (machine .exit) ≡ imageOver (fresh binary64 (lent (now (words .entry)) (now (operands .entry)) (now (results .entry))) (startsIn (now (starts .entry))) .machine) (now (machine .entry))) ⌝ }
+    ensures { λ r. ⌜ ByRoom (fits registerCount (now (starts .entry)) && fits imageLength (now (machine .entry)))
+        ((r ≡ fresh binary64 (lent (now (words .entry)) (now (operands .entry)) (now (results .entry))) (startsIn (now (starts .entry))) .refusal)
+        × (now (machine .exit) ≡ imageOver (fresh binary64 (lent (now (words .entry)) (now (operands .entry)) (now (results .entry))) (startsIn (now (starts .entry))) .machine) (now (machine .entry))))
+        ((r ≡ 11) × (now (machine .exit) ≡ now (machine .entry))) ⌝ }
 {
+    if starts.len() < REGISTERS {
+        return refusal::ROOM;
+    }
+    if machine.len() < WORDS {
+        return refusal::ROOM;
+    }
     let numbers = starts_in(starts);
     let begun = held::start::fresh(words, operands, results, numbers);
     let m = begun.machine;
@@ -83,7 +102,7 @@ pub extern "C" fn wethertide_fresh(
     begun.refusal
 }
 
-// Answers the refusal; the row of words takes the machine of a step that was taken, the released row whether a record was released, and the record.
+// Answers the refusal; of a step that was taken the row of words takes the machine, the released row whether a record was released, and the record.
 #[no_mangle]
 pub extern "C" fn wethertide_step(
     machine: &mut [u64],
@@ -93,16 +112,28 @@ pub extern "C" fn wethertide_step(
     code: u32,
     released: &mut [u64],
 ) -> u32
-    ensures { λ r. ⌜ StepWords (stepIn (now (words .entry)) (now (operands .entry)) (now (machine .entry)) (now (results .entry)) code) (now (machine .entry)) (now (results .entry)) (now (released .entry)) r (now (machine .exit)) (now (results .exit)) (now (released .exit)) ⌝ }
+    ensures { λ r. ⌜ ByRoom (fits imageLength (now (machine .entry)) && fits releasedLength (now (released .entry)))
+        (StepWords (stepIn (now (words .entry)) (now (operands .entry)) (now (machine .entry)) (now (results .entry)) code)
+        (now (machine .entry)) (now (results .entry)) (now (released .entry)) r (now (machine .exit)) (now (results .exit)) (now (released .exit)))
+        ((r ≡ 11) × (now (machine .exit) ≡ now (machine .entry)) × (now (results .exit) ≡ now (results .entry)) × (now (released .exit) ≡ now (released .entry))) ⌝ }
 {
+    if machine.len() < WORDS {
+        return refusal::ROOM;
+    }
+    if released.len() < RELEASED {
+        return refusal::ROOM;
+    }
     let m = machine_in(machine);
     let stepped = machine::step::step(m, words, operands, results, code);
+    if stepped.refusal != refusal::ACCEPTED {
+        return stepped.refusal;
+    }
     let after = stepped.machine;
     let made = stepped.released;
-    put_taken(machine, after, stepped.refusal == refusal::ACCEPTED);
+    put_machine(machine, after);
     let told = released_words(made);
     put_words(released, 0, &told);
-    stepped.refusal
+    refusal::ACCEPTED
 }
 
 #[no_mangle]
@@ -112,16 +143,22 @@ pub extern "C" fn wethertide_good_order(
     operands: &[f64],
     results: &[f64],
 ) -> bool
-    ensures { λ r. ⌜ r ≡ inOrder binary64 (lent (now (words .entry)) (now (operands .entry)) (now (results .entry))) (machineIn (now (machine .entry))) ⌝ }
+    ensures { λ r. ⌜ r ≡ fits imageLength (now (machine .entry)) && inOrder binary64 (lent (now (words .entry)) (now (operands .entry)) (now (results .entry))) (machineIn (now (machine .entry))) ⌝ }
 {
+    if machine.len() < WORDS {
+        return false;
+    }
     let m = machine_in(machine);
     good_order::good_order(m, words, operands, results)
 }
 
 #[no_mangle]
 pub extern "C" fn wethertide_drained(machine: &[u64], words: &[u32]) -> bool
-    ensures { λ r. ⌜ r ≡ drained (length (now (words .entry))) (machineIn (now (machine .entry))) ⌝ }
+    ensures { λ r. ⌜ r ≡ fits imageLength (now (machine .entry)) && drained (length (now (words .entry))) (machineIn (now (machine .entry))) ⌝ }
 {
+    if machine.len() < WORDS {
+        return false;
+    }
     let m = machine_in(machine);
     left::drained(m, words)
 }
@@ -135,9 +172,17 @@ pub extern "C" fn wethertide_steps_left(
     results: &[f64],
     answer: &mut [u64],
 ) -> u32
-    ensures { λ r. ⌜ (r ≡ stepsLeft binary64 (lent (now (words .entry)) (now (operands .entry)) (now (results .entry))) (machineIn (now (machine .entry))) .refusal)
-        × (now (answer .exit) ≡ sets (now (answer .entry)) 0 (stepsLeft binary64 (lent (now (words .entry)) (now (operands .entry)) (now (results .entry))) (machineIn (now (machine .entry))) .left ∷ [])) ⌝ }
+    ensures { λ r. ⌜ ByRoom (fits imageLength (now (machine .entry)) && fits leftLength (now (answer .entry)))
+        ((r ≡ stepsLeft binary64 (lent (now (words .entry)) (now (operands .entry)) (now (results .entry))) (machineIn (now (machine .entry))) .refusal)
+        × (now (answer .exit) ≡ sets (now (answer .entry)) 0 (stepsLeft binary64 (lent (now (words .entry)) (now (operands .entry)) (now (results .entry))) (machineIn (now (machine .entry))) .left ∷ [])))
+        ((r ≡ 11) × (now (answer .exit) ≡ now (answer .entry))) ⌝ }
 {
+    if machine.len() < WORDS {
+        return refusal::ROOM;
+    }
+    if answer.len() < LEFT {
+        return refusal::ROOM;
+    }
     let m = machine_in(machine);
     let left = left::steps_left(m, words, operands, results);
     let told: [u64; 1] = [left.left as u64];
@@ -154,9 +199,17 @@ pub extern "C" fn wethertide_lowest_step(
     results: &[f64],
     answer: &mut [u64],
 ) -> u32
-    ensures { λ r. ⌜ (r ≡ lowestStep binary64 (lent (now (words .entry)) (now (operands .entry)) (now (results .entry))) (machineIn (now (machine .entry))) .refusal)
-        × (now (answer .exit) ≡ sets (now (answer .entry)) 0 (lowestWords (lowestStep binary64 (lent (now (words .entry)) (now (operands .entry)) (now (results .entry))) (machineIn (now (machine .entry))) .code))) ⌝ }
+    ensures { λ r. ⌜ ByRoom (fits imageLength (now (machine .entry)) && fits lowestLength (now (answer .entry)))
+        ((r ≡ lowestStep binary64 (lent (now (words .entry)) (now (operands .entry)) (now (results .entry))) (machineIn (now (machine .entry))) .refusal)
+        × (now (answer .exit) ≡ sets (now (answer .entry)) 0 (lowestWords (lowestStep binary64 (lent (now (words .entry)) (now (operands .entry)) (now (results .entry))) (machineIn (now (machine .entry))) .code))))
+        ((r ≡ 11) × (now (answer .exit) ≡ now (answer .entry))) ⌝ }
 {
+    if machine.len() < WORDS {
+        return refusal::ROOM;
+    }
+    if answer.len() < LOWEST {
+        return refusal::ROOM;
+    }
     let m = machine_in(machine);
     let lowest = machine::lowest::lowest_step(m, words, operands, results);
     let code = lowest.code;
@@ -173,10 +226,15 @@ pub extern "C" fn wethertide_one_at_a_time(
     results: &mut [f64],
     registers: &mut [f64],
 ) -> u32
-    ensures { λ r. ⌜ (r ≡ aloneIn (now (words .entry)) (now (operands .entry)) (now (results .entry)) (now (registers .entry)) .refusal)
+    ensures { λ r. ⌜ ByRoom (fits registerCount (now (registers .entry)))
+        ((r ≡ aloneIn (now (words .entry)) (now (operands .entry)) (now (results .entry)) (now (registers .entry)) .refusal)
         × (now (results .exit) ≡ aloneIn (now (words .entry)) (now (operands .entry)) (now (results .entry)) (now (registers .entry)) .run .cells)
-        × (now (registers .exit) ≡ sets (now (registers .entry)) 0 (aloneIn (now (words .entry)) (now (operands .entry)) (now (results .entry)) (now (registers .entry)) .run .registers)) ⌝ }
+        × (now (registers .exit) ≡ sets (now (registers .entry)) 0 (aloneIn (now (words .entry)) (now (operands .entry)) (now (results .entry)) (now (registers .entry)) .run .registers)))
+        ((r ≡ 11) × (now (results .exit) ≡ now (results .entry)) × (now (registers .exit) ≡ now (registers .entry))) ⌝ }
 {
+    if registers.len() < REGISTERS {
+        return refusal::ROOM;
+    }
     let starts = starts_in(registers);
     let ran = alone::one_at_a_time::one_at_a_time(words, operands, results, starts);
     let ends = ran.registers;

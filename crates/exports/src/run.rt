@@ -1,6 +1,7 @@
 // The run of a schedule, its log a row of words: three to a record.
 use crate::machines::record_words;
 use held::parts::Machine;
+use images::image::WORDS;
 use images::image::machine_in;
 use images::row::put_words;
 use images::spelling::put_taken;
@@ -8,11 +9,16 @@ use machine::advance::Progress;
 use machine::advance::Stop;
 use machine::advance::advance;
 use machine::advance::begun;
+use words::refusal;
 ghost use mathlib.Core.Path.{_≡_};
+ghost use mathlib.Core.Bool.{_&&_};
 ghost use Rattle.held.specs.View.{view};
-ghost use Rattle.images.specs.Image.{machineIn};
-ghost use Rattle.exports.specs.Entries.{RunWords, RunLogged, runIn, roomIn};
+ghost use Rattle.images.specs.Image.{imageLength, machineIn};
+ghost use Rattle.exports.specs.Entries.{fits, ByRoom, ranLength, RunWords, RunLogged, runIn};
 ghost use Rattle.exports.specs.Logging.{loggedStop};
+
+// Steps done, byte place and records.
+const RAN: usize = 3;
 
 // The record of a stop at a release, where the log has room.
 fn put_stop(log: &mut [u64], stop: Stop)
@@ -62,8 +68,17 @@ pub extern "C" fn wethertide_run(
     log: &mut [u64],
     answer: &mut [u64],
 ) -> u32
-    ensures { λ r. ⌜ RunWords (runIn (now (words .entry)) (now (operands .entry)) (machineIn (now (machine .entry))) (now (results .entry)) (now (schedule .entry)) (now (log .entry))) (now (machine .entry)) (now (log .entry)) (now (answer .entry)) r (now (machine .exit)) (now (results .exit)) (now (log .exit)) (now (answer .exit)) ⌝ }
+    ensures { λ r. ⌜ ByRoom (fits imageLength (now (machine .entry)) && fits ranLength (now (answer .entry)))
+        (RunWords (runIn (now (words .entry)) (now (operands .entry)) (machineIn (now (machine .entry))) (now (results .entry)) (now (schedule .entry)) (now (log .entry)))
+        (now (machine .entry)) (now (log .entry)) (now (answer .entry)) r (now (machine .exit)) (now (results .exit)) (now (log .exit)) (now (answer .exit)))
+        ((r ≡ 11) × (now (machine .exit) ≡ now (machine .entry)) × (now (results .exit) ≡ now (results .entry)) × (now (log .exit) ≡ now (log .entry)) × (now (answer .exit) ≡ now (answer .entry))) ⌝ }
 {
+    if machine.len() < WORDS {
+        return refusal::ROOM;
+    }
+    if answer.len() < RAN {
+        return refusal::ROOM;
+    }
     let m = machine_in(machine);
     let run = run_by_value(m, words, operands, results, schedule, log);
     let after = run.machine;

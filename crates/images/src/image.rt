@@ -21,6 +21,9 @@ ghost use Rattle.held.specs.View.{viewOperand, viewRegister, viewBuffer, viewSt
 ghost use Rattle.images.specs.Image as image;
 ghost use Rattle.images.specs.Image.{machineIn, imageLength};
 
+// The words of a machine.
+pub const WORDS: usize = 77;
+
 fn operand_at(row: &[u64], place: usize) -> Operand
     requires { ⌜ place + 2 ≤ imageLength ⌝ }
     ensures { λ r. ⌜ viewOperand r ≡ image.operandAt (now (row .entry)) place ⌝ }

@@ -1,5 +1,5 @@
 //! The entries as a C library offers them: a machine is a row of words, and everything else that
-//! is lent is a row too, of any length.
+//! is lent is a row too, of any length; one too short for what it is to hold is refused with 11.
 
 mod call;
 pub mod machine_words;

@@ -1,6 +1,6 @@
 //! The calls answered by this program's own machine.
 
-use super::machine_words::{machine_of, words_of};
+use super::machine_words::{machine_of, words_of, WORDS};
 use super::{Call, Entry, RECORD_WORDS};
 use crate::list_file;
 use crate::machine::{Machine, Record, Step, REGISTERS};
@@ -11,6 +11,12 @@ use crate::schedule;
 use crate::words::{check_list, CellLimits};
 
 pub fn answer(call: &mut Call) -> u32 {
+    if short(call) {
+        return match call.entry {
+            Entry::GoodOrder | Entry::Drained => 0,
+            _ => Refusal::TooSmall.number(),
+        };
+    }
     match call.entry {
         Entry::ReadList => read_list(call),
         Entry::WriteList => write_list(call),
@@ -28,7 +34,22 @@ pub fn answer(call: &mut Call) -> u32 {
     }
 }
 
-/// Stores as many values as the row has room for.
+/// Whether a row has no room for what it is to hold, which is found out before anything else.
+fn short(call: &Call) -> bool {
+    let (machine, answer, starts) = match call.entry {
+        Entry::ReadList | Entry::WriteList => (0, 2, 0),
+        Entry::Fresh => (WORDS, 0, REGISTERS),
+        Entry::Step => (WORDS, 1 + RECORD_WORDS, 0),
+        Entry::GoodOrder | Entry::Drained => (WORDS, 0, 0),
+        Entry::StepsLeft => (WORDS, 1, 0),
+        Entry::LowestStep => (WORDS, 2, 0),
+        Entry::OneAtATime => (0, 0, REGISTERS),
+        Entry::Run => (WORDS, 3, 0),
+    };
+    call.machine.len() < machine || call.answer.len() < answer || call.starts.len() < starts
+}
+
+/// Stores the values; what the row has beyond them stays.
 fn put<T: Copy>(row: &mut [T], values: &[T]) {
     row.iter_mut().zip(values).for_each(|(old, &new)| *old = new);
 }
@@ -50,7 +71,7 @@ fn write_list(call: &mut Call) -> u32 {
 }
 
 fn four_starts(call: &Call) -> [Number; REGISTERS] {
-    std::array::from_fn(|index| call.starts.get(index).copied().unwrap_or(Number::ZERO))
+    std::array::from_fn(|index| call.starts[index])
 }
 
 fn fresh(call: &mut Call) -> u32 {
@@ -76,8 +97,8 @@ fn step(call: &mut Call) -> u32 {
     };
     if answer.is_ok() {
         put(&mut call.machine, &words_of(&machine));
+        put(&mut call.answer, &released);
     }
-    put(&mut call.answer, &released);
     Refusal::number_of(&answer)
 }
 

@@ -87,7 +87,7 @@ impl Calls {
             Entry::Step => call.code = self.code(prng),
             Entry::Run => self.schedule_and_log(prng, call),
             Entry::Fresh | Entry::OneAtATime => {
-                let length = prng.pick(&[4, 4, 4, 4, 0, 1, 2, 3, 5, 6]);
+                let length = prng.pick(&[4, 4, 4, 4, 4, 4, 4, 3, 0, 5]);
                 call.starts = (0..length).map(|_| number(prng)).collect();
             }
             _ => {}
