@@ -57,6 +57,13 @@ fn read_named(i: usize, bytes: &mut [u8]) -> Taken
     taken
 }
 
+// What cannot be written is told on standard error.
+fn write_out(text: &[u8]) {
+    if !io::write_all(STDOUT_FILENO, text) {
+        os::fail(&[b'r', b'e', b'p', b'o', b'r', b't']);
+    }
+}
+
 // Reads the files, and writes their report.
 fn print_report(list: &mut [u8], operands: &mut [u8], schedule: &mut [u8], out: &mut [u8]) {
     let first = read_named(1, list);
@@ -71,7 +78,7 @@ fn print_report(list: &mut [u8], operands: &mut [u8], schedule: &mut [u8], out: 
     let o = second.size;
     let s = third.size;
     let n = report(named, &list[..l], &operands[..o], &schedule[..s], out);
-    io::write_all(STDOUT_FILENO, &out[..n]);
+    write_out(&out[..n]);
 }
 
 // Each buffer has one byte more than a file may have.

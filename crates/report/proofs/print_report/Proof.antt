@@ -20,8 +20,8 @@ slice-aggregate-report-3 c =
     let r = c .before .before .before .before .before .read-named3 in
     sym (length-take-le (r .result .size) (r .last .1 .0) (omega (arith, r .ensures, r .kept .1 .0)))
 
-slice-aggregate-write-all : tie.Need-slice-aggregate-write-all
-slice-aggregate-write-all c =
+slice-aggregate-write-out : tie.Need-slice-aggregate-write-out
+slice-aggregate-write-out c =
     let r = c .before .before .before .report in
     sym (length-take-le (r .result) (r .last .1 .1 .1 .1 .0) (omega (arith, r .ensures .within, r .kept .1 .1 .1 .1 .0)))
 
@@ -40,7 +40,7 @@ print-report-spec =
     slice-aggregate-report-3
     (λ c κs. search needs)
     (λ c. search needs)
-    slice-aggregate-write-all
+    slice-aggregate-write-out
     (λ c κs. search needs)
     (λ c. search needs)
     (λ c. search needs)
