@@ -1,4 +1,4 @@
--- Whether a slot waits, as the functions of this crate see it.
+-- What only the code's contracts cite: whether a slot waits, as the functions of this crate see it.
 use mathlib.Core.Bool.{Bool, false, _||_}
 use Prim.Native.Nat.{ℕ}
 use lib.Dec.{eqb}

@@ -1,4 +1,4 @@
--- What the private functions of the passes do, in terms of the reader's and the writer's definitions.
+-- What only private contracts cite: what the functions of the passes do, in terms of the reader's and the writer's definitions.
 use mathlib.Core.Path.{_≡_}
 use mathlib.Core.List.{List}
 use Prim.Native.Nat.{ℕ}

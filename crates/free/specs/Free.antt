@@ -1,4 +1,4 @@
--- The lowest free slot of a row and whether a cell is live, as order has them of the row alone.
+-- What only the code's contracts cite: the lowest free slot of a row and whether a cell is live, as order has them of the row alone.
 use mathlib.Core.Bool.{Bool, _&&_, not}
 use mathlib.Core.Option.{Option, none, some}
 use mathlib.Core.List.{List}

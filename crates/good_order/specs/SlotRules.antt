@@ -1,5 +1,5 @@
--- Good order slot by slot: one test a slot, with all its rules at once, then a row, then the machine. That it is the good order of crate
--- order, which goes clause by clause, is shown in proofs/BySlots.antt.
+-- What only private contracts cite: good order as the code goes, slot by slot, one test a slot with all its rules at once, then a row, then the
+-- machine. The law is the good order of crate order, clause by clause; proofs/BySlots.antt shows that this is the same.
 use mathlib.Core.Bool.{Bool, true, cond, not, _&&_, _||_}
 use mathlib.Core.List.{List, [], _∷_, map}
 use Prim.Native.Nat.{ℕ}
@@ -32,7 +32,7 @@ abbrev pub placeIn : (table : List ℕ) → (t : ℕ) → ℕ
 placeIn table t = cond (ltb lastStation t) never (getD table t 0)
 
 module _ {A : Type 0} where
-  -- "free, waiting (place, cell) or full (place, number)"
+  -- a buffer: its place is below next, and the cell of a waiting one is of the operand area
   abbrev pub bufferGood : (next operands : ℕ) → Buffer A → Bool
   bufferGood next operands freeBuffer = true
   bufferGood next operands (waiting p c) = ltb p next && isCell operands c
@@ -60,13 +60,13 @@ module _ {A : Type 0} where
     operandGood q (num x) = true
     operandGood q (tag t) = cond (ltb t firstStation) (leb (f t) q) (ltb (f t) q)
 
-    -- station i: "free, holding (place, operation, sink operand and source operand) or done (place, result)"
+    -- station i: its place is below next, and of a holding one the operation is of the station's kind and both operands are good
     abbrev pub stationGood : (next i : ℕ) → Station A → Bool
     stationGood next i freeStation = true
     stationGood next i (holding p o x y) = ltb p next && (suits i o && (operandGood p x && operandGood p y))
     stationGood next i (done p v) = ltb p next
 
-    -- "free or live (place, cell, operand)"
+    -- a store buffer: its place is below next, its cell is of the result area, and its operand is good
     abbrev pub storeGood : (next results : ℕ) → StoreBuffer A → Bool
     storeGood next results freeStore = true
     storeGood next results (live p c x) = ltb p next && (isCell results c && operandGood p x)

@@ -60,7 +60,7 @@ module _ (p : Progress) (words : List ℕ) (operands cells : List Float) (schedu
   abbrev pub takenOn : Taken
   takenOn = takeFrom (lentTo words operands (length cells)) (ltb (p .records) room) schedule (length schedule) (view (p .machine)) (p .steps) (p .place)
 
-  -- each step has taken a byte or more
+  -- a run that goes on; with fewer bytes than steps it is none, since each step has taken a byte or more, and nothing is done
   abbrev pub goes : Bool
   goes = cond (p .going) (not (ltb (p .place) (p .steps))) false
 

@@ -1,4 +1,4 @@
--- Text stored at a place of a row of bytes.
+-- What only the code's contracts cite: text stored at a place of a row of bytes.
 use mathlib.Core.Path.{_≡_}
 use mathlib.Core.Bool.{cond}
 use mathlib.Core.List.{List}

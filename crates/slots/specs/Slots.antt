@@ -1,4 +1,4 @@
--- One code of order's definitions, as the functions of this crate see it.
+-- What only the code's contracts cite: one code of order's definitions, as the functions of this crate see it.
 use mathlib.Core.Path.{_≡_}
 use Prim.Native.Nat.{ℕ, _<_}
 use Rattle.order.specs.Tags.{bufferCount, stationCount, storeCount}
