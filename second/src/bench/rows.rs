@@ -5,7 +5,7 @@ use super::work::{Work, Works};
 use crate::entries::machine_words::{words_of, WORDS};
 use crate::entries::RECORD_WORDS;
 use crate::list_file;
-use crate::machine::{Lent, Machine, Record, Step};
+use crate::machine::{Lent, Machine, Record, Step, REGISTERS};
 use crate::numbers::Number;
 use crate::one_at_a_time;
 use crate::proved::library;
@@ -162,7 +162,7 @@ fn proved_steps(work: &Work, results: &mut [Number], after: impl Fn(&mut [u64]))
 fn only_carried(machine: &mut [u64]) {
     static LONG_LIST: [u32; LIST_LIMIT + 1] = [0; LIST_LIMIT + 1];
     library::step(machine, &LONG_LIST, &[], &mut [], 0, &mut [0; 4]);
-    library::fresh(&[], &[], &[], &[], black_box(&mut [0; WORDS]));
+    library::fresh(&[], &[], &[], &[Number::ZERO; REGISTERS], black_box(&mut [0; WORDS]));
 }
 
 fn alone(works: &Works) -> Task {
