@@ -25,8 +25,13 @@ Inv-loop o ss i₀ i = Looking (test o ss) 5 i
 abbrev μ-loop : tie.MeasureT-loop
 μ-loop o ss i₀ i = 5 - i
 
-tested : (c : tie.After-station-serves Inv-loop μ-loop) → test (c .before .before .before .before .args .o) (c .before .before .before .before .args .t1) (c .before .before .before .loop .i) ≡ c .station-serves .result
-tested c = ap (λ s. suits (c .before .before .before .loop .i) (c .before .before .before .before .args .o) && isFreeStation s) (seen viewStation (c .before .before .before .before .args .t1) _ (record { state = Free }) refl) ∙ sym (c .station-serves .ensures)
+tested : (c : tie.After-station-serves Inv-loop μ-loop)
+    → let a = c .before .before .before .before .args in
+    test (a .o) (a .t1) (c .before .before .before .loop .i) ≡ c .station-serves .result
+tested c =
+    let top = c .before .before .before in
+    let a = top .before .args in
+    ap (λ s. suits (top .loop .i) (a .o) && isFreeStation s) (seen viewStation (a .t1) _ (record { state = Free }) refl) ∙ sym (c .station-serves .ensures)
 
 loop-holds : tie.Need-loop-holds Inv-loop μ-loop
 loop-holds c = looking-none (test (c .args .o) (c .args .t1)) 5
