@@ -10,7 +10,14 @@ returns : tie.Need-returns
 returns c = rw (test-taken (c .before .word-at .ensures) (c .if1 .taken))
 
 returns-2 : tie.Need-returns-2
-returns-2 c = let w = c .before .before .before .before in rw (test-left (w .word-at .ensures) (c .before .before .before .if1 .left), test-taken (w .word-at .ensures) (c .before .before .if2 .taken), c .before .word-at2 .ensures, c .word-at3 .ensures)
+returns-2 c =
+    let w = c .before .before .before .before in
+    rw (
+      test-left (w .word-at .ensures) (c .before .before .before .if1 .left),
+      test-taken (w .word-at .ensures) (c .before .before .if2 .taken),
+      c .before .word-at2 .ensures,
+      c .word-at3 .ensures,
+    )
 
 returns-3 : tie.Need-returns-3
 returns-3 c =

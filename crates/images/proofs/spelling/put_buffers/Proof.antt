@@ -10,11 +10,20 @@ use borrow.Author.Needs.{needs}
 use Rattle.images.proofs.spelling.put_buffers.Statement.{statement}
 use Rattle.images.proofs.spelling.put_buffers.Tie as tie
 
+-- `whole` stands before the places: a search also looks through each place that has a name
 returns : tie.Need-returns
 returns c =
-    let a = c .before .before .before .before .before .before .before .before .before .before .before .before .before .before .before .before .before .before .before .before .before .before .before .before .before .before .before .before .before .before .before .args in
-    rw (c .before .before .put-buffer6 .ensures, c .before .before .before .before .before .before .before .put-buffer5 .ensures, c .before .before .before .before .before .before .before .before .before .before .before .before .put-buffer4 .ensures, c .before .before .before .before .before .before .before .before .before .before .before .before .before .before .before .before .before .put-buffer3 .ensures, c .before .before .before .before .before .before .before .before .before .before .before .before .before .before .before .before .before .before .before .before .before .before .put-buffer2 .ensures, c .before .before .before .before .before .before .before .before .before .before .before .before .before .before .before .before .before .before .before .before .before .before .before .before .before .before .before .put-buffer .ensures)
-    (ap (λ (l : List Buffer). buffersOver (map viewBuffer l) (now (a .row))) (spelt (record { state = Free }) (a .t2) 6 (search needs)))
+    let a =
+    c .before .before .before .before .before .before .before .before .before .before .before .before .before .before .before .before .before .before .before .before .before .before .before .before .before .before .before .before .before .before .before .args in
+    let whole = spelt (record { state = Free }) (a .t2) 6 (search needs) in
+    let sixth = c .before .before in
+    let fifth = sixth .before .before .before .before .before in
+    let fourth = fifth .before .before .before .before .before in
+    let third = fourth .before .before .before .before .before in
+    let second = third .before .before .before .before .before in
+    let first = second .before .before .before .before .before in
+    rw (sixth .put-buffer6 .ensures, fifth .put-buffer5 .ensures, fourth .put-buffer4 .ensures, third .put-buffer3 .ensures, second .put-buffer2 .ensures, first .put-buffer .ensures)
+    (ap (λ (l : List Buffer). buffersOver (map viewBuffer l) (now (a .row))) whole)
 
 pub put-buffers-spec : {M : Type 1} → statement M
 put-buffers-spec =

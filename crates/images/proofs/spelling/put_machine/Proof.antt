@@ -3,7 +3,18 @@ use Rattle.images.proofs.spelling.put_machine.Statement.{statement}
 use Rattle.images.proofs.spelling.put_machine.Tie as tie
 
 returns : tie.Need-returns
-returns c = rw (c .before .before .put-stores .ensures, c .before .before .before .before .before .before .put-stations .ensures, c .before .before .before .before .before .before .before .before .before .before .put-buffers .ensures, c .before .before .before .before .before .before .before .before .before .before .before .before .before .before .put-registers .ensures, c .before .before .before .before .before .before .before .before .before .before .before .before .before .before .before .before .before .before .put-word .ensures)
+returns c =
+    let stores = c .before .before in
+    let stations = stores .before .before .before .before in
+    let buffers = stations .before .before .before .before in
+    let registers = buffers .before .before .before .before in
+    rw (
+      stores .put-stores .ensures,
+      stations .put-stations .ensures,
+      buffers .put-buffers .ensures,
+      registers .put-registers .ensures,
+      registers .before .before .before .before .put-word .ensures,
+    )
 
 pub put-machine-spec : {M : Type 1} → statement M
 put-machine-spec =

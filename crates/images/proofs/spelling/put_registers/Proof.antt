@@ -11,11 +11,17 @@ use borrow.Author.Needs.{needs}
 use Rattle.images.proofs.spelling.put_registers.Statement.{statement}
 use Rattle.images.proofs.spelling.put_registers.Tie as tie
 
+-- `whole` stands before the places: a search also looks through each place that has a name
 returns : tie.Need-returns
 returns c =
     let a = c .before .before .before .before .before .before .before .before .before .before .before .before .before .before .before .before .before .before .before .before .before .args in
-    rw (c .before .before .put-register4 .ensures, c .before .before .before .before .before .before .before .put-register3 .ensures, c .before .before .before .before .before .before .before .before .before .before .before .before .put-register2 .ensures, c .before .before .before .before .before .before .before .before .before .before .before .before .before .before .before .before .before .put-register .ensures)
-    (ap (λ (l : List Register). registersOver (map viewRegister l) (now (a .row))) (spelt (record { operand = Number nan }) (a .t2) 4 (search needs)))
+    let whole = spelt (record { operand = Number nan }) (a .t2) 4 (search needs) in
+    let fourth = c .before .before in
+    let third = fourth .before .before .before .before .before in
+    let second = third .before .before .before .before .before in
+    let first = second .before .before .before .before .before in
+    rw (fourth .put-register4 .ensures, third .put-register3 .ensures, second .put-register2 .ensures, first .put-register .ensures)
+    (ap (λ (l : List Register). registersOver (map viewRegister l) (now (a .row))) whole)
 
 pub put-registers-spec : {M : Type 1} → statement M
 put-registers-spec =

@@ -10,11 +10,18 @@ use borrow.Author.Needs.{needs}
 use Rattle.images.proofs.spelling.put_stations.Statement.{statement}
 use Rattle.images.proofs.spelling.put_stations.Tie as tie
 
+-- `whole` stands before the places: a search also looks through each place that has a name
 returns : tie.Need-returns
 returns c =
     let a = c .before .before .before .before .before .before .before .before .before .before .before .before .before .before .before .before .before .before .before .before .before .before .before .before .before .before .args in
-    rw (c .before .before .put-station5 .ensures, c .before .before .before .before .before .before .before .put-station4 .ensures, c .before .before .before .before .before .before .before .before .before .before .before .before .put-station3 .ensures, c .before .before .before .before .before .before .before .before .before .before .before .before .before .before .before .before .before .put-station2 .ensures, c .before .before .before .before .before .before .before .before .before .before .before .before .before .before .before .before .before .before .before .before .before .before .put-station .ensures)
-    (ap (λ (l : List Station). stationsOver (map viewStation l) (now (a .row))) (spelt (record { state = Free }) (a .t2) 5 (search needs)))
+    let whole = spelt (record { state = Free }) (a .t2) 5 (search needs) in
+    let fifth = c .before .before in
+    let fourth = fifth .before .before .before .before .before in
+    let third = fourth .before .before .before .before .before in
+    let second = third .before .before .before .before .before in
+    let first = second .before .before .before .before .before in
+    rw (fifth .put-station5 .ensures, fourth .put-station4 .ensures, third .put-station3 .ensures, second .put-station2 .ensures, first .put-station .ensures)
+    (ap (λ (l : List Station). stationsOver (map viewStation l) (now (a .row))) whole)
 
 pub put-stations-spec : {M : Type 1} → statement M
 put-stations-spec =

@@ -10,11 +10,16 @@ use borrow.Author.Needs.{needs}
 use Rattle.images.proofs.spelling.put_stores.Statement.{statement}
 use Rattle.images.proofs.spelling.put_stores.Tie as tie
 
+-- `whole` stands before the places: a search also looks through each place that has a name
 returns : tie.Need-returns
 returns c =
     let a = c .before .before .before .before .before .before .before .before .before .before .before .before .before .before .before .before .args in
-    rw (c .before .before .put-store3 .ensures, c .before .before .before .before .before .before .before .put-store2 .ensures, c .before .before .before .before .before .before .before .before .before .before .before .before .put-store .ensures)
-    (ap (λ (l : List StoreBuffer). storesOver (map viewStore l) (now (a .row))) (spelt (record { state = Free }) (a .t2) 3 (search needs)))
+    let whole = spelt (record { state = Free }) (a .t2) 3 (search needs) in
+    let third = c .before .before in
+    let second = third .before .before .before .before .before in
+    let first = second .before .before .before .before .before in
+    rw (third .put-store3 .ensures, second .put-store2 .ensures, first .put-store .ensures)
+    (ap (λ (l : List StoreBuffer). storesOver (map viewStore l) (now (a .row))) whole)
 
 pub put-stores-spec : {M : Type 1} → statement M
 put-stores-spec =
