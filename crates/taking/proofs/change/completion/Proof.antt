@@ -10,7 +10,14 @@ returns : tie.Need-returns
 returns c = refuses (c .not-now .ensures) (λ m. rw (c .before .enum-told .given .1))
 
 returns-2 : tie.Need-returns-2
-returns-2 c = let k = c .before .before .before .before .before in let s = k .before .before .before in record { is = λ m. rw (s .state .given .1, k .sink .given .1, c .before .before .source .given .1, c .computed .ensures); within = s .before .before .pre; stays = λ g. g }
+returns-2 c =
+    let k = c .before .before .before .before .before in
+    let s = k .before .before .before in
+    record {
+      is = λ m. rw (s .state .given .1, k .sink .given .1, c .before .before .source .given .1, c .computed .ensures);
+      within = s .before .before .pre;
+      stays = λ g. g;
+    }
 
 returns-3 : tie.Need-returns-3
 returns-3 c = let k = c .before .before .before .before in let s = k .before .before .before in refuses (c .not-now2 .ensures) (λ m. rw (s .state .given .1, k .sink .given .1, c .before .enum-told2 .given .1))

@@ -9,8 +9,8 @@ use Rattle.taking.proofs.issue.issue.Statement.{statement}
 use Rattle.taking.proofs.issue.issue.Tie as tie
 
 reading : (c : tie.After-operand-of)
-    → Reading (lentTo (now (c .before .before .before .before .before .before .before .before .before .before .before .args .words)) (now (c .before .before .before .before .before .before .before .before .before .before .before .args .operands)) (c .before .before .before .before .before .before .before .before .before .before .before .args .results)) (c .before .before .before .before .before .before .before .before .before .before .before .args .place)
-    (c .before .before .before .index-of .result) (c .operand-of .result) (c .before .form-of .result)
+    → let a = c .before .before .before .before .before .before .before .before .before .before .before .args in
+    Reading (lentTo (now (a .words)) (now (a .operands)) (a .results)) (a .place) (c .before .before .before .index-of .result) (c .operand-of .result) (c .before .form-of .result)
 reading c = record {
   inList = c .before .before .before .before .before .before .before .before .if1 .left;
   accepted = sym (c .before .before .before .before .before .before .word-refusal .ensures) ∙ c .before .before .before .before .before .if2 .left;

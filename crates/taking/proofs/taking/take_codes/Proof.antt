@@ -1,4 +1,5 @@
--- `take_codes` meets its contract: the codes of a schedule, taken up to and including the next release (a turn: Proof/Turn.antt; its bounds: Proof/Bounds.antt).
+-- `take_codes` meets its contract: the codes of a schedule, taken up to and including the next release (a turn: Proof/Turn.antt; its arms: Proof/Arms.antt; its bounds: Proof/Bounds.antt).
+mod Arms
 mod Bounds
 mod Turn
 use mathlib.Core.Path.{refl, sym, ap, _∙_}
@@ -11,24 +12,23 @@ use Rattle.held.specs.declared.parts.Operand.the-variants.{Number}
 use Rattle.held.specs.declared.parts.StationState.the-variants as station
 use Rattle.held.specs.declared.parts.StoreState.the-variants as store
 use Rattle.groups.specs.Told.{told}
-use Rattle.order.specs.Machine.{tag}
 use Rattle.held.proofs.Whole.{whole}
 use Rattle.taking.proofs.Takes.{begins, at-end, number-stops, step-stops, full-stops, release-stops}
 use Rattle.bus.proofs.Given.{giving-none, register-given, register-kept, station-given, station-kept, store-given, store-kept}
-use Rattle.taking.proofs.Changing.{buffer-tagged, station-tagged}
-use Rattle.taking.proofs.Arms.{is-change, is-within, loads, takes-cell, copies, takes-register, stores, arrives, completes, releases}
+use Rattle.taking.proofs.Arms.{is-change, is-within, releases}
 use borrow.Author.Needs.{needs}
 use Rattle.taking.proofs.taking.take_codes.Statement.{statement}
 use Rattle.taking.proofs.taking.take_codes.Tie as tie
+use Rattle.taking.proofs.taking.take_codes.Proof.Arms as arms
 use Rattle.taking.proofs.taking.take_codes.Proof.Bounds as bounds
-use Rattle.taking.proofs.taking.take_codes.Proof.Turn.{Inv-loop2, μ-loop2, Inv-loop3, μ-loop3, Inv-loop4, μ-loop4, Inv-loop, μ-loop, known, read, onward, four, on, granted-on}
+use Rattle.taking.proofs.taking.take_codes.Proof.Turn.{Inv-loop2, μ-loop2, Inv-loop3, μ-loop3, Inv-loop4, μ-loop4, Inv-loop, μ-loop, known, read}
 
 loop-holds : tie.Need-loop-holds Inv-loop2 μ-loop2 Inv-loop3 μ-loop3 Inv-loop4 μ-loop4 Inv-loop μ-loop
 loop-holds c =
-    let m = c .before .before .before .args .m in (
+    let m = c .before .before .before .args .m in
+    let rows = c .before .before .before .good .0 .1 .1 .1 in (
       begins _ _ _ (view m) _
-          (whole m (simp length-map at (c .before .before .before .good .0 .1 .1 .1 .0 .1 .0 .1)) (simp length-map at (c .before .before .before .good .0 .1 .1 .1 .1 .0 .1 .0 .1)) (simp length-map at (c .before .before .before .good .0 .1 .1 .1 .1 .1 .0 .1 .0 .1))
-          (simp length-map at (c .before .before .before .good .0 .1 .1 .1 .1 .1 .1 .0 .1 .0 .1))),
+          (whole m (simp length-map at (rows .0 .1 .0 .1)) (simp length-map at (rows .1 .0 .1 .0 .1)) (simp length-map at (rows .1 .1 .0 .1 .0 .1)) (simp length-map at (rows .1 .1 .1 .0 .1 .0 .1))),
       refl,
       refl,
     )
@@ -60,68 +60,49 @@ loop4-again c = (omega arith, store-kept (record { state = store.Free }) (c .bef
 loop4-again-2 : tie.Need-loop4-again-2 Inv-loop2 μ-loop2 Inv-loop3 μ-loop3 Inv-loop4 μ-loop4 Inv-loop μ-loop
 loop4-again-2 c = (omega arith, store-given (record { state = store.Free }) (c .before .before .before .before .before .loop4 .inv .1) (c .given-store .result) (c .given-store .ensures))
 
-loop-less : tie.Need-loop-less Inv-loop2 μ-loop2 Inv-loop3 μ-loop3 Inv-loop4 μ-loop4 Inv-loop μ-loop
-loop-less c = omega (arith, onward (c .before .before .before .before .before .before .before .before))
-
-loop-again : tie.Need-loop-again Inv-loop2 μ-loop2 Inv-loop3 μ-loop3 Inv-loop4 μ-loop4 Inv-loop μ-loop
-loop-again c = on (c .before .before .before .before .before .before) (loads (known (c .before .before .before .before .before .before)) (c .before .before .before .before .change2 .given .1) (c .before .waiting-register .result) (c .before .waiting-register .ensures ∙ ap tag (buffer-tagged (is-within (known (c .before .before .before .before .before .before)) (c .before .before .before .before .change2 .given .1) .1) (c .before .before .of-buffer .ensures))) (c .fetching .result) (c .fetching .ensures))
-
-loop-less-2 : tie.Need-loop-less-2 Inv-loop2 μ-loop2 Inv-loop3 μ-loop3 Inv-loop4 μ-loop4 Inv-loop μ-loop
-loop-less-2 c = omega (arith, onward (c .before .before .before .before .before .before .before .before .before .before .before .before))
-
-loop-again-2 : tie.Need-loop-again-2 Inv-loop2 μ-loop2 Inv-loop3 μ-loop3 Inv-loop4 μ-loop4 Inv-loop μ-loop
-loop-again-2 c = on (c .before .before .before .before .before .before .before .before .before .before) (takes-cell (known (c .before .before .before .before .before .before .before .before .before .before)) (c .before .before .before .before .before .before .before .before .change3 .given .1) (four (c .before .before .before .before .before .before .before .before .before .before)) (is-within (known (c .before .before .before .before .before .before .before .before .before .before)) (c .before .before .before .before .before .before .before .before .change3 .given .1) .0) (c .before .before .before .holding .result) (c .before .before .before .before .waiting-register2 .result) (c .before .before .before .holding .ensures) (c .before .before .before .before .waiting-register2 .ensures ∙ ap tag (buffer-tagged (is-within (known (c .before .before .before .before .before .before .before .before .before .before)) (c .before .before .before .before .before .before .before .before .change3 .given .1) .1) (c .before .before .before .before .before .of-buffer2 .ensures))) (c .before .waiting-register3 .result) (c .before .waiting-register3 .ensures ∙ ap tag (station-tagged (is-within (known (c .before .before .before .before .before .before .before .before .before .before)) (c .before .before .before .before .before .before .before .before .change3 .given .1) .2) (c .before .before .of-station .ensures))) (c .fetching2 .result) (c .fetching2 .ensures))
-
-loop-less-3 : tie.Need-loop-less-3 Inv-loop2 μ-loop2 Inv-loop3 μ-loop3 Inv-loop4 μ-loop4 Inv-loop μ-loop
-loop-less-3 c = omega (arith, onward (c .before .before .before .before .before .before))
-
-loop-again-3 : tie.Need-loop-again-3 Inv-loop2 μ-loop2 Inv-loop3 μ-loop3 Inv-loop4 μ-loop4 Inv-loop μ-loop
-loop-again-3 c = on (c .before .before .before .before) (copies (known (c .before .before .before .before)) (c .before .before .change4 .given .1) (four (c .before .before .before .before)) (is-within (known (c .before .before .before .before)) (c .before .before .change4 .given .1) .1))
-
-loop-less-4 : tie.Need-loop-less-4 Inv-loop2 μ-loop2 Inv-loop3 μ-loop3 Inv-loop4 μ-loop4 Inv-loop μ-loop
-loop-less-4 c = omega (arith, onward (c .before .before .before .before .before .before .before .before .before .before))
-
-loop-again-4 : tie.Need-loop-again-4 Inv-loop2 μ-loop2 Inv-loop3 μ-loop3 Inv-loop4 μ-loop4 Inv-loop μ-loop
-loop-again-4 c = on (c .before .before .before .before .before .before .before .before) (takes-register (known (c .before .before .before .before .before .before .before .before)) (c .before .before .before .before .before .before .change5 .given .1) (four (c .before .before .before .before .before .before .before .before)) (is-within (known (c .before .before .before .before .before .before .before .before)) (c .before .before .before .before .before .before .change5 .given .1) .0) (is-within (known (c .before .before .before .before .before .before .before .before)) (c .before .before .before .before .before .before .change5 .given .1) .1) (c .holding2 .result) (c .holding2 .ensures) (c .before .waiting-register4 .result) (c .before .waiting-register4 .ensures ∙ ap tag (station-tagged (is-within (known (c .before .before .before .before .before .before .before .before)) (c .before .before .before .before .before .before .change5 .given .1) .2) (c .before .before .of-station2 .ensures))))
-
-loop-less-5 : tie.Need-loop-less-5 Inv-loop2 μ-loop2 Inv-loop3 μ-loop3 Inv-loop4 μ-loop4 Inv-loop μ-loop
-loop-less-5 c = omega (arith, onward (c .before .before .before .before .before .before .before))
-
-loop-again-5 : tie.Need-loop-again-5 Inv-loop2 μ-loop2 Inv-loop3 μ-loop3 Inv-loop4 μ-loop4 Inv-loop μ-loop
-loop-again-5 c = on (c .before .before .before .before .before) (stores (known (c .before .before .before .before .before)) (c .before .before .before .change6 .given .1) (four (c .before .before .before .before .before)) (is-within (known (c .before .before .before .before .before)) (c .before .before .before .change6 .given .1) .0) (c .pending .result) (c .pending .ensures))
-
-loop-less-6 : tie.Need-loop-less-6 Inv-loop2 μ-loop2 Inv-loop3 μ-loop3 Inv-loop4 μ-loop4 Inv-loop μ-loop
-loop-less-6 c = omega (arith, onward (c .before .before .before .before .before .before))
-
-loop-again-6 : tie.Need-loop-again-6 Inv-loop2 μ-loop2 Inv-loop3 μ-loop3 Inv-loop4 μ-loop4 Inv-loop μ-loop
-loop-again-6 c = on (c .before .before .before .before) (arrives (known (c .before .before .before .before)) (c .before .before .change7 .given .1) (c .full .result) (c .full .ensures))
-
-loop-less-7 : tie.Need-loop-less-7 Inv-loop2 μ-loop2 Inv-loop3 μ-loop3 Inv-loop4 μ-loop4 Inv-loop μ-loop
-loop-less-7 c = omega (arith, onward (c .before .before .before .before .before .before))
-
-loop-again-7 : tie.Need-loop-again-7 Inv-loop2 μ-loop2 Inv-loop3 μ-loop3 Inv-loop4 μ-loop4 Inv-loop μ-loop
-loop-again-7 c = on (c .before .before .before .before) (completes (known (c .before .before .before .before)) (c .before .before .change8 .given .1) (c .done .result) (c .done .ensures))
-
-loop-less-8 : tie.Need-loop-less-8 Inv-loop2 μ-loop2 Inv-loop3 μ-loop3 Inv-loop4 μ-loop4 Inv-loop μ-loop
-loop-less-8 c = omega (arith, onward (c .before .before .before .before .before .before .before .before .before .before .before .before))
-
-loop-again-8 : tie.Need-loop-again-8 Inv-loop2 μ-loop2 Inv-loop3 μ-loop3 Inv-loop4 μ-loop4 Inv-loop μ-loop
-loop-again-8 c = on (c .before .before .before .before .before .before .before .before .before .before) (granted-on c)
-
 returns : tie.Need-returns Inv-loop2 μ-loop2 Inv-loop3 μ-loop3 Inv-loop4 μ-loop4 Inv-loop μ-loop
 returns c = let l = c .before .loop .inv in rw (l .1, l .2) (at-end _ _ _ _ (l .0) (c .loop-test .left))
 
 returns-2 : tie.Need-returns-2 Inv-loop2 μ-loop2 Inv-loop3 μ-loop3 Inv-loop4 μ-loop4 Inv-loop μ-loop
-returns-2 c = let l = c .before .before .before .before .before .loop .inv in rw (l .2) (number-stops _ _ _ _ (l .0) (c .before .before .before .before .loop-test .taken) (sym (c .before .before .before .number-at .ensures) ∙ ap told (c .before .number .given .1)))
+returns-2 c =
+    let top = c .before .before .before .before .before in
+    let l = top .loop .inv in
+    rw (l .2)
+    (number-stops _ _ _ _ (l .0) (c .before .before .before .before .loop-test .taken) (sym (c .before .before .before .number-at .ensures) ∙ ap told (c .before .number .given .1)))
 
 returns-3 : tie.Need-returns-3 Inv-loop2 μ-loop2 Inv-loop3 μ-loop3 Inv-loop4 μ-loop4 Inv-loop μ-loop
-returns-3 c = let l = c .before .before .before .before .before .before .before .before .before .before .loop .inv in rw (l .2) (step-stops _ _ _ _ (l .0) (c .before .before .before .before .before .before .before .before .before .loop-test .taken) (read (c .before .before .before .before .before)) (is-within (known (c .before .before .before)) (c .before .change .given .1)) (is-change (known (c .before .before .before)) (c .before .change .given .1)))
+returns-3 c =
+    let turn = c .before .before .before in
+    let coded = turn .before .before in
+    let top = coded .before .before .before .before .before in
+    let is = c .before .change .given .1 in
+    let l = top .loop .inv in
+    rw (l .2)
+    (step-stops _ _ _ _ (l .0) (coded .before .before .before .before .loop-test .taken) (read coded) (is-within (known turn) is) (is-change (known turn) is))
 
 returns-4 : tie.Need-returns-4 Inv-loop2 μ-loop2 Inv-loop3 μ-loop3 Inv-loop4 μ-loop4 Inv-loop μ-loop
-returns-4 c = let l = c .before .before .before .before .before .before .before .before .before .before .before .loop .inv in rw (l .2) (full-stops _ _ _ _ (l .0) (c .before .before .before .before .before .before .before .before .before .before .loop-test .taken) (read (c .before .before .before .before .before .before)) (is-change (known (c .before .before .before .before)) (c .before .before .change10 .given .1)) (not-true _ (c .if5 .taken)))
+returns-4 c =
+    let turn = c .before .before .before .before in
+    let coded = turn .before .before in
+    let top = coded .before .before .before .before .before in
+    let is = c .before .before .change10 .given .1 in
+    let l = top .loop .inv in
+    rw (l .2)
+    (full-stops _ _ _ _ (l .0) (coded .before .before .before .before .loop-test .taken) (read coded) (is-change (known turn) is) (not-true _ (c .if5 .taken)))
 
 returns-5 : tie.Need-returns-5 Inv-loop2 μ-loop2 Inv-loop3 μ-loop3 Inv-loop4 μ-loop4 Inv-loop μ-loop
-returns-5 c = let l = c .before .before .before .before .before .before .before .before .before .before .before .before .loop .inv in rw (l .1) (release-stops _ _ _ _ (l .0) (c .before .before .before .before .before .before .before .before .before .before .before .loop-test .taken) (read (c .before .before .before .before .before .before .before)) (releases (known (c .before .before .before .before .before)) (c .before .before .before .change10 .given .1) (c .free-store .result) (c .free-store .ensures)) (not-false _ (c .before .if5 .left)))
+returns-5 c =
+    let turn = c .before .before .before .before .before in
+    let coded = turn .before .before in
+    let top = coded .before .before .before .before .before in
+    let is = c .before .before .before .change10 .given .1 in
+    let l = top .loop .inv in
+    rw (l .1)
+    (release-stops _ _ _ _ (l .0)
+    (coded .before .before .before .before .loop-test .taken)
+    (read coded)
+    (releases (known turn) is (c .free-store .result) (c .free-store .ensures))
+    (not-false _ (c .before .if5 .left)))
 
 pub take-codes-spec : {M : Type 1} → statement M
 take-codes-spec =
@@ -277,22 +258,22 @@ take-codes-spec =
     (λ c κs. search needs)
     bounds.mul-t184
     bounds.element-set-from-n-15
-    loop-less
-    loop-again
-    loop-less-2
-    loop-again-2
-    loop-less-3
-    loop-again-3
-    loop-less-4
-    loop-again-4
-    loop-less-5
-    loop-again-5
-    loop-less-6
-    loop-again-6
-    loop-less-7
-    loop-again-7
-    loop-less-8
-    loop-again-8
+    arms.loop-less
+    arms.loop-again
+    arms.loop-less-2
+    arms.loop-again-2
+    arms.loop-less-3
+    arms.loop-again-3
+    arms.loop-less-4
+    arms.loop-again-4
+    arms.loop-less-5
+    arms.loop-again-5
+    arms.loop-less-6
+    arms.loop-again-6
+    arms.loop-less-7
+    arms.loop-again-7
+    arms.loop-less-8
+    arms.loop-again-8
     returns
     returns-2
     returns-3

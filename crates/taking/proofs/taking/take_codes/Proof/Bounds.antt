@@ -91,7 +91,9 @@ pub element-set-from-n-5 : tie.Need-element-set-from-n-5 Inv-loop2 μ-loop2 Inv-
 element-set-from-n-5 c = is-within (known (c .before .before .before .before .before .before .before .before .before .before)) (c .before .before .before .before .before .before .before .before .change3 .given .1) .1
 
 pub add-n-2 : tie.Need-add-n-2 Inv-loop2 μ-loop2 Inv-loop3 μ-loop3 Inv-loop4 μ-loop4 Inv-loop μ-loop
-add-n-2 c = omega (arith, is-growing (known (c .before .before .before .before .before .before .before .before .before .before)) (c .before .before .before .before .before .before .before .before .change3 .given .1) tt, c .before .before .before .before .before .before .before .before .before .before .before .before .before .before .before .before .before .before .before .before .before .good .1 .0 .0)
+add-n-2 c =
+    let grows = is-growing (known (c .before .before .before .before .before .before .before .before .before .before)) (c .before .before .before .before .before .before .before .before .change3 .given .1) tt in
+    omega (arith, grows, c .before .before .before .before .before .before .before .before .before .before .before .before .before .before .before .before .before .before .before .before .before .good .1 .0 .0)
 
 pub mul-other : tie.Need-mul-other Inv-loop2 μ-loop2 Inv-loop3 μ-loop3 Inv-loop4 μ-loop4 Inv-loop μ-loop
 mul-other c = omega (arith, is-within (known (c .before .before .before)) (c .before .change4 .given .1) .1)
@@ -139,7 +141,9 @@ pub element-set-from-waits : tie.Need-element-set-from-waits Inv-loop2 μ-loop2 
 element-set-from-waits c = is-within (known (c .before .before .before .before .before .before .before .before)) (c .before .before .before .before .before .before .change5 .given .1) .0
 
 pub add-n-4 : tie.Need-add-n-4 Inv-loop2 μ-loop2 Inv-loop3 μ-loop3 Inv-loop4 μ-loop4 Inv-loop μ-loop
-add-n-4 c = omega (arith, is-growing (known (c .before .before .before .before .before .before .before .before)) (c .before .before .before .before .before .before .change5 .given .1) tt, c .before .before .before .before .before .before .before .before .before .before .before .before .before .before .before .before .before .before .before .good .1 .0 .0)
+add-n-4 c =
+    let grows = is-growing (known (c .before .before .before .before .before .before .before .before)) (c .before .before .before .before .before .before .change5 .given .1) tt in
+    omega (arith, grows, c .before .before .before .before .before .before .before .before .before .before .before .before .before .before .before .before .before .before .before .good .1 .0 .0)
 
 pub mul-operand : tie.Need-mul-operand Inv-loop2 μ-loop2 Inv-loop3 μ-loop3 Inv-loop4 μ-loop4 Inv-loop μ-loop
 mul-operand c = omega (arith, is-within (known (c .before .before .before)) (c .before .change6 .given .1) .0)
@@ -172,7 +176,9 @@ pub sub-t147 : tie.Need-sub-t147 Inv-loop2 μ-loop2 Inv-loop3 μ-loop3 Inv-loop4
 sub-t147 c = omega (arith, low-tag _ (names (known (c .before .before .before .before .before)) (c .before .before .before .change9 .given .1)) (c .before .if1 .taken) .0)
 
 pub element-set-from-n-10 : tie.Need-element-set-from-n-10 Inv-loop2 μ-loop2 Inv-loop3 μ-loop3 Inv-loop4 μ-loop4 Inv-loop μ-loop
-element-set-from-n-10 c = omega (arith, low-tag _ (names (known (c .before .before .before .before .before)) (c .before .before .before .change9 .given .1)) (c .before .if1 .taken) .0, low-tag _ (names (known (c .before .before .before .before .before)) (c .before .before .before .change9 .given .1)) (c .before .if1 .taken) .1)
+element-set-from-n-10 c =
+    let low = low-tag _ (names (known (c .before .before .before .before .before)) (c .before .before .before .change9 .given .1)) (c .before .if1 .taken) in
+    omega (arith, low .0, low .1)
 
 pub element-set-from-n-11 : tie.Need-element-set-from-n-11 Inv-loop2 μ-loop2 Inv-loop3 μ-loop3 Inv-loop4 μ-loop4 Inv-loop μ-loop
 element-set-from-n-11 c = omega (arith, high-tag _ (names (known (c .before .before .before .before .before)) (c .before .before .before .change9 .given .1)) (c .before .if1 .left))

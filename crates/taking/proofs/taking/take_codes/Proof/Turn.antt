@@ -53,8 +53,10 @@ abbrev pub μ-loop : tie.MeasureT-loop
 
 -- at the join: the change that the code has found out
 pub known : (c : tie.At-match2-came Inv-loop2 μ-loop2 Inv-loop3 μ-loop3 Inv-loop4 μ-loop4 Inv-loop μ-loop)
-    → Known (lentTo (now (c .before .before .before .before .before .before .before .before .before .before .before .args .words)) (now (c .before .before .before .before .before .before .before .before .before .before .before .args .operands)) (c .before .before .before .before .before .before .before .before .before .before .before .args .results)) (c .before .before .before .before .before .before .before .loop .n) (c .before .before .before .code .given .0 .0)
-    (c .match2 .change)
+    → let coded = c .before .before .before in
+    let top = coded .before .before .before .before in
+    let a = top .before .before .before .before .args in
+    Known (lentTo (now (a .words)) (now (a .operands)) (a .results)) (top .loop .n) (coded .code .given .0 .0) (c .match2 .change)
 known c =
     let read = c .before .step-of .ensures in
     ⊎-elim (λ w. no-step read (w .2) (w .1 .given .1) refl)
@@ -66,30 +68,48 @@ known c =
     (λ w. release-found read (w .5) (w .1 .given .1) (w .4 .ensures)))))))
     (c .match2 .came)
 
-pub read : (c : tie.After-known-told2 Inv-loop2 μ-loop2 Inv-loop3 μ-loop3 Inv-loop4 μ-loop4 Inv-loop μ-loop) → numberAt (now (c .before .before .before .before .before .before .before .before .before .args .schedule)) (c .before .before .before .before .before .loop .place) ≡ accepted (c .before .code .given .0 .0) (c .before .code .given .0 .1 .0)
+pub read : (c : tie.After-known-told2 Inv-loop2 μ-loop2 Inv-loop3 μ-loop3 Inv-loop4 μ-loop4 Inv-loop μ-loop)
+    → let top = c .before .before .before .before .before in
+    let code = c .before .code .given .0 in
+    numberAt (now (top .before .before .before .before .args .schedule)) (top .loop .place) ≡ accepted (code .0) (code .1 .0)
 read c = sym (c .before .before .before .number-at .ensures) ∙ ap told (c .before .code .given .1)
 
-pub onward : (c : tie.After-known-told2 Inv-loop2 μ-loop2 Inv-loop3 μ-loop3 Inv-loop4 μ-loop4 Inv-loop μ-loop) → c .before .before .before .before .before .loop .place < c .before .code .given .0 .1 .0
-onward c = moves-on (now (c .before .before .before .before .before .before .before .before .before .args .schedule)) (c .before .before .before .before .before .loop .place) (read c)
+pub onward : (c : tie.After-known-told2 Inv-loop2 μ-loop2 Inv-loop3 μ-loop3 Inv-loop4 μ-loop4 Inv-loop μ-loop)
+    → c .before .before .before .before .before .loop .place < c .before .code .given .0 .1 .0
+onward c =
+    let top = c .before .before .before .before .before in
+    moves-on (now (top .before .before .before .before .args .schedule)) (top .loop .place) (read c)
 
-pub four : (c : tie.At-match2-came Inv-loop2 μ-loop2 Inv-loop3 μ-loop3 Inv-loop4 μ-loop4 Inv-loop μ-loop) → length (c .before .before .before .before .before .before .before .loop .n .registers) ≡ 4
+pub four : (c : tie.At-match2-came Inv-loop2 μ-loop2 Inv-loop3 μ-loop3 Inv-loop4 μ-loop4 Inv-loop μ-loop)
+    → length (c .before .before .before .before .before .before .before .loop .n .registers) ≡ 4
 four c = simp length-map at (c .before .before .before .before .before .before .before .loop .inv .0 .rows .fourRegisters)
 
 -- the turn's end
 pub on : (c : tie.At-match2-came Inv-loop2 μ-loop2 Inv-loop3 μ-loop3 Inv-loop4 μ-loop4 Inv-loop μ-loop) {n : Machine}
-    → Steps (lentTo (now (c .before .before .before .before .before .before .before .before .before .before .before .args .words)) (now (c .before .before .before .before .before .before .before .before .before .before .before .args .operands)) (c .before .before .before .before .before .before .before .before .before .before .before .args .results)) (c .before .before .before .before .before .before .before .loop .n) n (c .before .before .before .code .given .0 .0)
-    → Inv-loop (now (c .before .before .before .before .before .before .before .before .before .before .before .args .words)) (now (c .before .before .before .before .before .before .before .before .before .before .before .args .operands)) (c .before .before .before .before .before .before .before .before .before .before .before .args .results) (now (c .before .before .before .before .before .before .before .before .before .before .before .args .schedule)) (c .before .before .before .before .before .before .before .before .before .before .before .args .from) (c .before .before .before .before .before .before .before .before .before .before .before .args .room)
-    (c .before .before .before .before .before .before .before .before .before .before .before .args .m) 0 (c .before .before .before .before .before .before .before .before .before .before .before .args .from) 0 Nothing n (c .before .before .before .before .before .before .before .loop .steps + 1) (c .before .before .before .code .given .0 .1 .0) (c .before .before .before .before .before .before .before .loop .refusal) (c .before .before .before .before .before .before .before .loop .released)
-on c q = let l = c .before .before .before .before .before .before .before .loop .inv in (goes-on _ _ _ _ (l .0) (c .before .before .before .before .before .before .loop-test .taken) (read (c .before .before)) (q .taken-is), l .1, l .2)
+    → let coded = c .before .before .before in
+    let top = coded .before .before .before .before in
+    let a = top .before .before .before .before .args in
+    Steps (lentTo (now (a .words)) (now (a .operands)) (a .results)) (top .loop .n) n (coded .code .given .0 .0)
+    → Inv-loop (now (a .words)) (now (a .operands)) (a .results) (now (a .schedule)) (a .from) (a .room)
+    (a .m) 0 (a .from) 0 Nothing
+    n (top .loop .steps + 1) (coded .code .given .0 .1 .0) (top .loop .refusal) (top .loop .released)
+on c q =
+    let l = c .before .before .before .before .before .before .before .loop .inv in
+    (goes-on _ _ _ _ (l .0) (c .before .before .before .before .before .before .loop-test .taken) (read (c .before .before)) (q .taken-is), l .1, l .2)
 
 -- a grant: the giver is free, and all have taken the number
 pub freed-rows : (c : tie.Joined1 Inv-loop2 μ-loop2 Inv-loop3 μ-loop3 Inv-loop4 μ-loop4 Inv-loop μ-loop) → Shape (view (c .if1 .n))
 freed-rows c =
     let l = c .before .before .before .before .before .before .before .before .before .before .before .loop in
-    ⊎-elim (λ w. rw (w .2) (buffer-freed (l .n) (l .inv .0 .rows) _ (w .1 .result))) (λ w. rw (w .2) (station-freed (l .n) (l .inv .0 .rows) _ (w .1 .result))) (c .if1 .came)
+    ⊎-elim (λ w. rw (w .2) (buffer-freed (l .n) (l .inv .0 .rows) _ (w .1 .result)))
+    (λ w. rw (w .2) (station-freed (l .n) (l .inv .0 .rows) _ (w .1 .result)))
+    (c .if1 .came)
 
 pub granted-on : (c : tie.After-loop4 Inv-loop2 μ-loop2 Inv-loop3 μ-loop3 Inv-loop4 μ-loop4 Inv-loop μ-loop)
-    → Steps (lentTo (now (c .before .before .before .before .before .before .before .before .before .before .before .before .before .before .before .before .before .before .before .before .before .args .words)) (now (c .before .before .before .before .before .before .before .before .before .before .before .before .before .before .before .before .before .before .before .before .before .args .operands)) (c .before .before .before .before .before .before .before .before .before .before .before .before .before .before .before .before .before .before .before .before .before .args .results)) (c .before .before .before .before .before .before .before .before .before .before .before .before .before .before .before .before .before .loop .n) (c .before .loop4 .n) (c .before .before .before .before .before .before .before .before .before .before .before .before .before .code .given .0 .0)
+    → let coded = c .before .before .before .before .before .before .before .before .before .before .before .before .before in
+    let top = coded .before .before .before .before in
+    let a = top .before .before .before .before .args in
+    Steps (lentTo (now (a .words)) (now (a .operands)) (a .results)) (top .loop .n) (c .before .loop4 .n) (coded .code .given .0 .0)
 granted-on c =
     let j = c .before .before .before .before .before .before in
     let S = freed-rows j in
@@ -100,5 +120,7 @@ granted-on c =
     let e = c .before .before .before .before .before .before .before .before .change9 .given .1 in
     record {
       taken-is = ap taken (given-all (c .before .before .before .before .before .loop2 .inv .1) (c .before .before .before .loop3 .inv .1) (c .before .loop4 .inv .1) (omega arith) (omega arith) (omega arith))
-          ∙ ⊎-elim (λ w. rw (w .2) (gives-low k e (w .0 .taken) (w .1 .result) (w .1 .ensures))) (λ w. rw (w .2) (gives-high k e (w .0 .left) (w .1 .result) (w .1 .ensures))) (j .if1 .came);
+          ∙ ⊎-elim (λ w. rw (w .2) (gives-low k e (w .0 .taken) (w .1 .result) (w .1 .ensures)))
+          (λ w. rw (w .2) (gives-high k e (w .0 .left) (w .1 .result) (w .1 .ensures)))
+          (j .if1 .came);
     }
