@@ -16,10 +16,22 @@ in-good-order-requires : tie.Need-in-good-order-requires
 in-good-order-requires c κs = search needs
 
 returns-2 : tie.Need-returns-2
-returns-2 c = let a = c .before .before .before .before .before .before .args in machine-refused (a .m) (now (a .words)) (now (a .operands)) (a .results) (c .before .before .before .check-list-against .ensures) (c .before .before .if1 .left) (sym (c .before .in-good-order .ensures) ∙ not-true _ (c .if2 .taken))
+returns-2 c =
+    let listed = c .before .before .before in
+    let a = listed .before .before .before .args in
+    machine-refused (a .m) (now (a .words)) (now (a .operands)) (a .results)
+    (listed .check-list-against .ensures)
+    (c .before .before .if1 .left)
+    (sym (c .before .in-good-order .ensures) ∙ not-true _ (c .if2 .taken))
 
 returns-3 : tie.Need-returns-3
-returns-3 c = let a = c .before .before .before .before .before .before .args in both-pass (a .m) (now (a .words)) (now (a .operands)) (a .results) (c .before .before .before .check-list-against .ensures) (c .before .before .if1 .left) (sym (c .before .in-good-order .ensures) ∙ not-false _ (c .if2 .left))
+returns-3 c =
+    let listed = c .before .before .before in
+    let a = listed .before .before .before .args in
+    both-pass (a .m) (now (a .words)) (now (a .operands)) (a .results)
+    (listed .check-list-against .ensures)
+    (c .before .before .if1 .left)
+    (sym (c .before .in-good-order .ensures) ∙ not-false _ (c .if2 .left))
 
 pub entry-refusal-spec : {M : Type 1} → statement M
 entry-refusal-spec =

@@ -13,10 +13,20 @@ returns-2 : tie.Need-returns-2
 returns-2 c = let g = c .before .before in disordered _ _ _ _ _ (g .before .if1 .left) (sym (g .in-good-order .ensures) ∙ not-true _ (c .before .if2 .taken)) (c .refused2 .ensures)
 
 returns-3 : tie.Need-returns-3
-returns-3 c = unknown _ _ _ _ _ (c .before .before .before .before .if1 .left) (sym (c .before .before .before .in-good-order .ensures) ∙ not-false _ (c .before .before .if2 .left)) (c .before .if3 .taken) (c .refused3 .ensures)
+returns-3 c =
+    unknown _ _ _ _ _
+    (c .before .before .before .before .if1 .left)
+    (sym (c .before .before .before .in-good-order .ensures) ∙ not-false _ (c .before .before .if2 .left))
+    (c .before .if3 .taken)
+    (c .refused3 .ensures)
 
 returns-4 : tie.Need-returns-4
-returns-4 c = performed _ _ _ _ _ (c .before .before .before .before .before .before .before .before .before .before .if1 .left) (sym (c .before .before .before .before .before .before .before .before .before .in-good-order .ensures) ∙ not-false _ (c .before .before .before .before .before .before .before .before .if2 .left)) (stepped-is _ _ _ (c .before .before .before .before .before .take-codes .result) (c .before .before .before .before .before .take-codes .ensures) (omega arith)) (c .before .before .write-released .ensures)
+returns-4 c =
+    performed _ _ _ _ _
+    (c .before .before .before .before .before .before .before .before .before .before .if1 .left)
+    (sym (c .before .before .before .before .before .before .before .before .before .in-good-order .ensures) ∙ not-false _ (c .before .before .before .before .before .before .before .before .if2 .left))
+    (stepped-is _ _ _ (c .before .before .before .before .before .take-codes .result) (c .before .before .before .before .before .take-codes .ensures) (omega arith))
+    (c .before .before .write-released .ensures)
 
 pub step-spec : {M : Type 1} → statement M
 step-spec =
