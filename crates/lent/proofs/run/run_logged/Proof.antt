@@ -122,7 +122,8 @@ made r l is are wt =
 abbrev Callee : {M : Type 1} (𝓤 : URA M) (H : Heap 𝓤) (A : Atoms 𝓤) (mem : Memory → SProp 𝓤) (run : Routine → Fun 𝓤) → Contract 𝓤
 Callee 𝓤 H A mem run = tripleOf 𝓤 H A g.signature (g.spec 𝓤 H A mem run)
 
-module _ {M : Type 1} (𝓤 : URA M) (H : Heap 𝓤) (A : Atoms 𝓤) (W : Given 𝓤 H A) (at-mem : Memory → SProp 𝓤) (run : Routine → Fun 𝓤) (κ₀ κ₁ κ₂ κ₃ : Lft) (q₀ q₁ q₂ q₃ : Share) (m : Machine) (ws : RefT (List ℕ)) (os rs : RefT (List Float)) (sch : RefT (List ℕ)) (lg₀ : List Record)
+module _ {M : Type 1} (𝓤 : URA M) (H : Heap 𝓤) (A : Atoms 𝓤) (W : Given 𝓤 H A) (at-mem : Memory → SProp 𝓤) (run : Routine → Fun 𝓤) (κ₀ κ₁ κ₂ κ₃ : Lft) (q₀ q₁ q₂ q₃ : Share) (m : Machine) (ws : RefT (List ℕ))
+    (os rs : RefT (List Float)) (sch : RefT (List ℕ)) (lg₀ : List Record)
     (m-is : Is N.the-row m (val-m m ∷ [])) (ws-room : Room u32 (length (ws .now))) (os-room : Room f64 (length (os .now))) (rs-room : Room f64 (length (rs .now))) (sch-room : Room u8 (length (sch .now))) (lg-is : Is Rows lg₀ (rows-vals lg₀)) where
   abbrev Arg : Type 0
   Arg = Machine × (RefT (List ℕ) × (RefT (List Float) × (RefT (List Float) × (RefT (List ℕ) × (List Record × Unit {0})))))
@@ -189,7 +190,8 @@ module _ {M : Type 1} (𝓤 : URA M) (H : Heap 𝓤) (A : Atoms 𝓤) (W : Given
       → ent 𝓤 (⋆ 𝓤 H A (‵ (flft κ₀ q₀) ∷ ‵ (flft κ₁ q₁) ∷ ‵ (flft κ₂ q₂) ∷ ‵ (flft κ₃ q₃) ∷ ‵ (finally f64 (rs .name) cs) ∷ [])) (Post (val-l r lg))
   exits r cs lg e l is are =
       qed W (‵ (flft κ₀ q₀) ∷ ‵ (flft κ₁ q₁) ∷ ‵ (flft κ₂ q₂) ∷ ‵ (flft κ₃ q₃) ∷ ‵ (finally f64 (rs .name) cs) ∷ []) ∵
-      suffices ! _ (ends-at 𝓤 H A f.ended stayed (f.clauses 𝓤 H A at-mem run) W (((κ₀, (κ₁, (κ₂, (κ₃, tt)))), (q₀, (q₁, (q₂, (q₃, tt)))), tt, x, at), tt) (val-l r lg) (logged r lg) (tt, (tt, (tt, (cs, (tt, (tt, tt)))))) (tt, (tt, (tt, (l, (tt, (tt, tt))))))) $
+      suffices ! _ (ends-at 𝓤 H A f.ended stayed (f.clauses 𝓤 H A at-mem run) W (((κ₀, (κ₁, (κ₂, (κ₃, tt)))), (q₀, (q₁, (q₂, (q₃, tt)))), tt, x, at), tt) (val-l r lg) (logged r lg) (tt, (tt, (tt, (cs, (tt, (tt, tt))))))
+      (tt, (tt, (tt, (l, (tt, (tt, tt))))))) $
       says ! e $ nothing ! $ move ! (4 ∷ 0 ∷ []) $ join ! $ move ! (3 ∷ 0 ∷ []) $ join ! $ move ! (2 ∷ 0 ∷ []) $ join ! $ move ! (1 ∷ 0 ∷ []) $ join ! $ frame ! $
       nothing ! $ nothing ! $ fjoin ! $ nothing ! $ fjoin ! $ move ! (1 ∷ 0 ∷ []) $ fjoin ! $ nothing ! $ fjoin ! $ nothing ! $ fjoin ! $ nothing ! $ fjoin ! $
       owned ! L.the-row (Is L.the-row) (LL.makes L.the-type L′.the-plain 𝓤 H A) (logged r lg) _ (made r lg is are (rows-typed lg are .1)) $ move ! (1 ∷ 0 ∷ []) $ done !
@@ -202,11 +204,14 @@ module _ {M : Type 1} (𝓤 : URA M) (H : Heap 𝓤) (A : Atoms 𝓤) (W : Given
         keep ! (10 ∷ 9 ∷ 8 ∷ 6 ∷ 4 ∷ 3 ∷ 2 ∷ 0 ∷ []) $
         -- [the four tokens; what words, operands, results and schedule own]
         enter ! C Λ code.function passed _ $
-        alloc1 ! (λ l₀. alloc1 ! (λ l₁. alloc1 ! (λ l₂. alloc1 ! (λ l₃. alloc1 ! (λ l₄. alloc1 ! (λ l₅. alloc1 ! (λ l₆. alloc1 ! (λ l₇. alloc1 ! (λ l₈. alloc1 ! (λ l₉. alloc1 ! (λ l₁₀. alloc1 ! (λ l₁₁. alloc1 ! (λ l₁₂. alloc1 ! (λ l₁₃. alloc0 ! $ params1 ! $
-        pass1 ! (init ! 24 refl typed-m) $ pass1 ! (init ! 22 refl (tt, (tt, (record { fits = ws-room .0 }, tt)))) $ pass1 ! (init ! 20 refl (tt, (tt, (record { fits = os-room .0 }, tt)))) $ pass1 ! (init ! 18 refl (tt, (tt, (record { fits = rs-room .0 }, tt)))) $ pass1 ! (init ! 16 refl (tt, (tt, (record { fits = sch-room .0 }, tt)))) $ pass1 ! (init ! 14 refl (rows-typed lg₀ lg-is)) $ pass0 ! $
+        alloc1 ! (λ l₀. alloc1 ! (λ l₁. alloc1 ! (λ l₂. alloc1 ! (λ l₃. alloc1 ! (λ l₄. alloc1 ! (λ l₅. alloc1 ! (λ l₆. alloc1 ! (λ l₇. alloc1 ! (λ l₈. alloc1 ! (λ l₉. alloc1 ! (λ l₁₀. alloc1 ! (λ l₁₁. alloc1 ! (λ l₁₂.
+        alloc1 ! (λ l₁₃. alloc0 ! $ params1 ! $
+        pass1 ! (init ! 24 refl typed-m) $ pass1 ! (init ! 22 refl (tt, (tt, (record { fits = ws-room .0 }, tt)))) $ pass1 ! (init ! 20 refl (tt, (tt, (record { fits = os-room .0 }, tt)))) $
+        pass1 ! (init ! 18 refl (tt, (tt, (record { fits = rs-room .0 }, tt)))) $ pass1 ! (init ! 16 refl (tt, (tt, (record { fits = sch-room .0 }, tt)))) $ pass1 ! (init ! 14 refl (rows-typed lg₀ lg-is)) $ pass0 ! $
         assigns ! (of-opd ! (load ! (from ! (stop !)) (look ! 14 refl))) (from ! (stop !)) (init ! 12 refl (rows-typed lg₀ lg-is)) $
         assigns ! (addr ! (from ! (fld ! refl (hop ! (look-in ! 18 (sub ! 0 refl (whole !))) (stop !))))) (from ! (stop !)) (init ! 8 refl (tt, tt)) $
-        assigns ! (agg ! (and-then ! (load ! (from ! (stop !)) (look ! 8 refl)) (and-then ! (load ! (from ! (fld ! refl (stop !))) (look-in ! 18 (sub ! 1 refl (whole !)))) (no-more !)))) (from ! (stop !)) (init ! 6 refl (tt, (tt, (record { fits = rs-room .0 }, tt)))) $
+        assigns ! (agg ! (and-then ! (load ! (from ! (stop !)) (look ! 8 refl)) (and-then ! (load ! (from ! (fld ! refl (stop !))) (look-in ! 18 (sub ! 1 refl (whole !)))) (no-more !)))) (from ! (stop !))
+        (init ! 6 refl (tt, (tt, (record { fits = rs-room .0 }, tt)))) $
         assigns ! (addr ! (from ! (stop !))) (from ! (stop !)) (init ! 4 refl (tt, tt)) $
         assigns ! (agg ! (and-then ! (load ! (from ! (stop !)) (look ! 4 refl)) (and-then ! (big-lit ! (record { fits = lit< tt })) (no-more !)))) (from ! (stop !)) (init ! 2 refl (tt, (tt, (record { fits = lit< tt }, tt)))) $
         rewrite ! 2 (λ (m : ℕ). ‵ (fat fullShare (tyAt mir.locals 12) l₁₂ 0 (sliceVal (l₇, 0) m))) (sym (count lg₀ _ lg-is)) refl $
@@ -214,12 +219,18 @@ module _ {M : Type 1} (𝓤 : URA M) (H : Heap 𝓤) (A : Atoms 𝓤) (W : Given
         move ! (12 ∷ []) $ use1 W (‵ (cellAt fullShare (Rows .mir) (rows-vals lg₀) l₇ 0)) (W .laws .at-raw fullShare (tyAt mir.locals 7) l₇ 0 (rows-val lg₀)) $
         owned ! Rows (Is Rows) (array-makes 𝓤 H A W R.the-row (LL.makes R.the-type R′.the-plain 𝓤 H A) 2048) lg₀ _ lg-is $ move ! (1 ∷ 0 ∷ []) $ use2 W (‵ (mem Rows .lies lg₀ l₇ 0)) (lies-in 𝓤 H A W Rows lg₀ (rows-vals lg₀) l₇ 0) $
         use1 W (‵ (arr-parts (shares R.the-row) 2048 .part fullShare lg₀ l₇ 0)) (array-apart 𝓤 H A W R.the-row fullShare tt 2048 lg₀ l₇ 0) $ fsplit ! $ drop ! $ use1 W (‵ (cells (mem R.the-row) lg₀ l₇ 0)) (whole-in 𝓤 H A W R.the-row lg₀ l₇ 0) $
-        lft-new ! tt (λ ν. move ! (1 ∷ []) $ use1 W (later (some (λ (γ : GName). ‵ (MutSlice (named 4) (ν ∷ []) R.the-row .own (lent l₇ γ) (s l₇ ∷ [])) ⊛ ‵ (flent (ν ∷ []) (Held R.the-row (length lg₀) l₇ 0 γ))))) (lends-slice 𝓤 H A W R.the-row (named 4) (ν ∷ []) lg₀ l₇ 0 (room lg₀ (count lg₀ _ lg-is))) $ await ! tt $ pick ! (λ γ. split ! $
+        lft-new ! tt (λ ν. move ! (1 ∷ []) $
+        use1 W (later (some (λ (γ : GName). ‵ (MutSlice (named 4) (ν ∷ []) R.the-row .own (lent l₇ γ) (s l₇ ∷ [])) ⊛ ‵ (flent (ν ∷ []) (Held R.the-row (length lg₀) l₇ 0 γ)))))
+        (lends-slice 𝓤 H A W R.the-row (named 4) (ν ∷ []) lg₀ l₇ 0 (room lg₀ (count lg₀ _ lg-is))) $ await ! tt $ pick ! (λ γ. split ! $
         move ! (30 ∷ 31 ∷ 32 ∷ 33 ∷ 2 ∷ 34 ∷ 35 ∷ 36 ∷ 37 ∷ 0 ∷ []) $ group ! 10 $ use1 W (raw (Callee 𝓤 H A at-mem run .pre (to-run l₇ ν γ))) (goes-run l₇ ν γ) $
         -- [what the callee asks; the lender's part; _13 at 2; …; _8 at 12; …; that _7 dies; _6 at 15; …]
-        calls-at ! fm (Callee 𝓤 H A at-mem run) known (to-run l₇ ν γ) (and-then ! (load ! (from ! (stop !)) (look ! 25 refl)) (and-then ! (load ! (from ! (stop !)) (look ! 23 refl)) (and-then ! (load ! (from ! (stop !)) (look ! 21 refl)) (and-then ! (load ! (from ! (stop !)) (look ! 8 refl)) (and-then ! (load ! (from ! (stop !)) (look ! 17 refl)) (and-then ! (load ! (from ! (stop !)) (look ! 4 refl)) (no-more !))))))) (λ w.
-        use1 W (later (some (λ (r : Progress). ((‵ (flft κ₀ q₀) ⊛ ‵ (flft κ₁ q₁) ⊛ ‵ (flft κ₂ q₂) ⊛ ‵ (flft κ₃ q₃) ⊛ ‵ (flft (ν ∷ []) fullShare) ⊛ ‵ ftrue) ⊛ ‵ (T.the-row .own r (w ∷ []))) ⊛ raw (ensured 𝓤 H A g.ended (g.clauses 𝓤 H A at-mem run) (κ₀, (κ₁, (κ₂, (κ₃, (ν ∷ [], tt))))) (gave l₇ γ) tt r)))) (id⊢ 𝓤 _) $ await ! tt $ pick ! (λ r.
-        split ! $ move ! (1 ∷ []) $ use1 W (some (λ (zs : Unit {0} × (Unit {0} × (Unit {0} × (List Float × (Unit {0} × (List Record × Unit {0})))))). ‵ (lasts g.ended (κ₀, (κ₁, (κ₂, (κ₃, (ν ∷ [], tt))))) (gave l₇ γ) zs) ⊛ raw (fact 𝓤 (Said r (zs .1 .1 .1 .0) (zs .1 .1 .1 .1 .1 .0))))) (id⊢ 𝓤 _) $ pick ! (λ zs.
+        calls-at ! fm (Callee 𝓤 H A at-mem run) known (to-run l₇ ν γ)
+        (and-then ! (load ! (from ! (stop !)) (look ! 25 refl)) (and-then ! (load ! (from ! (stop !)) (look ! 23 refl)) (and-then ! (load ! (from ! (stop !)) (look ! 21 refl))
+        (and-then ! (load ! (from ! (stop !)) (look ! 8 refl)) (and-then ! (load ! (from ! (stop !)) (look ! 17 refl)) (and-then ! (load ! (from ! (stop !)) (look ! 4 refl)) (no-more !))))))) (λ w.
+        use1 W (later (some (λ (r : Progress). ((‵ (flft κ₀ q₀) ⊛ ‵ (flft κ₁ q₁) ⊛ ‵ (flft κ₂ q₂) ⊛ ‵ (flft κ₃ q₃) ⊛ ‵ (flft (ν ∷ []) fullShare) ⊛ ‵ ftrue) ⊛ ‵ (T.the-row .own r (w ∷ [])))
+        ⊛ raw (ensured 𝓤 H A g.ended (g.clauses 𝓤 H A at-mem run) (κ₀, (κ₁, (κ₂, (κ₃, (ν ∷ [], tt))))) (gave l₇ γ) tt r)))) (id⊢ 𝓤 _) $ await ! tt $ pick ! (λ r.
+        split ! $ move ! (1 ∷ []) $ use1 W (some (λ (zs : Unit {0} × (Unit {0} × (Unit {0} × (List Float × (Unit {0} × (List Record × Unit {0})))))). ‵ (lasts g.ended (κ₀, (κ₁, (κ₂, (κ₃, (ν ∷ [], tt))))) (gave l₇ γ) zs)
+        ⊛ raw (fact 𝓤 (Said r (zs .1 .1 .1 .0) (zs .1 .1 .1 .1 .1 .0))))) (id⊢ 𝓤 _) $ pick ! (λ zs.
         let cs : List Float = zs .1 .1 .1 .0 in
         let lg : List Record = zs .1 .1 .1 .1 .1 .0 in
         split ! $ move ! (1 ∷ []) $ heard ! (Said r cs lg) (λ e. fsplit ! $ drop ! $ fsplit ! $ drop ! $ fsplit ! $ drop ! $ fsplit ! $ fsplit ! $ move ! (1 ∷ []) $ feqL ! (λ lc.
@@ -230,7 +241,8 @@ module _ {M : Type 1} (𝓤 : URA M) (H : Heap 𝓤) (A : Atoms 𝓤) (W : Given
         let run-is : Is T.the-row r (val r ∷ []) = subst (Is T.the-row r) (LL.tells T.the-type T′.the-laws r (w ∷ []) is) is in
         -- and taken back
         split ! $ move ! (1 ∷ []) $ split ! $ move ! (1 ∷ []) $ split ! $ move ! (1 ∷ []) $ split ! $ move ! (1 ∷ []) $ split ! $ lft-end ! tt $ move ! (0 ∷ 9 ∷ 6 ∷ []) $
-        use3 W (later (‵ (Arr (mem R.the-row) (length lg₀) .lies lg l₇ 0))) (slice-back 𝓤 H A W R.the-row (ν ∷ []) γ lg (length lg₀) l₇ 0) $ await ! tt $ fsplit ! $ drop ! $ use1 W (‵ (row R.the-row fullShare lg l₇ 0)) (whole-out 𝓤 H A W R.the-row lg l₇ 0) $
+        use3 W (later (‵ (Arr (mem R.the-row) (length lg₀) .lies lg l₇ 0))) (slice-back 𝓤 H A W R.the-row (ν ∷ []) γ lg (length lg₀) l₇ 0) $ await ! tt $ fsplit ! $ drop ! $
+        use1 W (‵ (row R.the-row fullShare lg l₇ 0)) (whole-out 𝓤 H A W R.the-row lg l₇ 0) $
         feqI ! ℕ (length lg) 2048 (ll ∙ count lg₀ _ lg-is) $ fjoin ! $ use1 W (‵ (mem Rows .lies lg l₇ 0)) (array-whole 𝓤 H A W R.the-row fullShare 2048 lg l₇ 0) $
         use1 W (some (λ (vs : List Val). ‵ (cellAt fullShare (Rows .mir) vs l₇ 0) ⊛ ‵ (Rows .own lg vs))) (lies-out 𝓤 H A W Rows lg l₇ 0) $ pick ! (λ vs. split ! $
         spelt ! Rows (Is Rows) (shows 𝓤 H A Rows) rows-vals (array-tells R.the-row (LL.vals R.the-type R′.the-laws) (LL.tells R.the-type R′.the-laws) 2048) fullShare lg vs l₇ 0 $
@@ -238,18 +250,27 @@ module _ {M : Type 1} (𝓤 : URA M) (H : Heap 𝓤) (A : Atoms 𝓤) (W : Given
         use1 W (‵ (fat fullShare (tyAt mir.locals 7) l₇ 0 (rows-val lg))) (W .laws .raw-at fullShare (tyAt mir.locals 7) l₇ 0 (rows-val lg)) $
         -- [_7; …; the tokens; …; the cells' last list; _13 at 8; …; _8 at 18; …; that _7 dies; _6 at 21; …; room for _0; …]
         assigns ! (of-opd ! (load ! (from ! (stop !)) (look ! 0 refl))) (from ! (stop !)) (init ! 8 refl (rows-typed lg was)) $
-        assigns ! (agg ! (and-then ! (load ! (from ! (stop !)) (look ! 18 refl)) (and-then ! (load ! (from ! (stop !)) (look ! 8 refl)) (no-more !)))) (from ! (stop !)) (init ! 33 refl (LL.lawful L.the-type L′.the-laws 𝓤 H A W .typed (logged r lg) _ (made r lg run-is was (rows-typed lg was .1)) .0)) $
-        returns ! (look ! 33 refl) $ forget ! 0 refl $ forget ! 8 refl $ forget ! 10 refl $ forget ! 12 refl $ forget ! 14 refl $ forget ! 16 refl $ forget ! 18 refl $ forget ! 21 refl $ forget ! 23 refl $ forget ! 25 refl $ forget ! 27 refl $ forget ! 29 refl $ forget ! 31 refl $ forget ! 33 refl $
-        move ! (33 ∷ 34 ∷ []) $ free1 ! $ move ! (31 ∷ 32 ∷ []) $ free1 ! $ move ! (29 ∷ 30 ∷ []) $ free1 ! $ move ! (27 ∷ 28 ∷ []) $ free1 ! $ move ! (25 ∷ 26 ∷ []) $ free1 ! $ move ! (23 ∷ 24 ∷ []) $ free1 ! $ move ! (21 ∷ 22 ∷ []) $ free1 ! $ move ! (0 ∷ 20 ∷ []) $ free1 ! $
+        assigns ! (agg ! (and-then ! (load ! (from ! (stop !)) (look ! 18 refl)) (and-then ! (load ! (from ! (stop !)) (look ! 8 refl)) (no-more !)))) (from ! (stop !))
+        (init ! 33 refl (LL.lawful L.the-type L′.the-laws 𝓤 H A W .typed (logged r lg) _ (made r lg run-is was (rows-typed lg was .1)) .0)) $
+        returns ! (look ! 33 refl) $ forget ! 0 refl $ forget ! 8 refl $ forget ! 10 refl $ forget ! 12 refl $ forget ! 14 refl $ forget ! 16 refl $ forget ! 18 refl $ forget ! 21 refl $ forget ! 23 refl $
+        forget ! 25 refl $ forget ! 27 refl $ forget ! 29 refl $ forget ! 31 refl $ forget ! 33 refl $
+        move ! (33 ∷ 34 ∷ []) $ free1 ! $ move ! (31 ∷ 32 ∷ []) $ free1 ! $ move ! (29 ∷ 30 ∷ []) $ free1 ! $ move ! (27 ∷ 28 ∷ []) $ free1 ! $ move ! (25 ∷ 26 ∷ []) $ free1 ! $ move ! (23 ∷ 24 ∷ []) $ free1 ! $
+        move ! (21 ∷ 22 ∷ []) $ free1 ! $ move ! (0 ∷ 20 ∷ []) $ free1 ! $
         move ! (17 ∷ 18 ∷ []) $ free1 ! $ move ! (15 ∷ 16 ∷ []) $ free1 ! $ move ! (13 ∷ 14 ∷ []) $ free1 ! $ move ! (11 ∷ 12 ∷ []) $ free1 ! $ move ! (9 ∷ 10 ∷ []) $ free1 ! $ move ! (7 ∷ 8 ∷ []) $ free1 ! $ free0 ! $
         keep ! (4 ∷ 3 ∷ 2 ∷ 1 ∷ 6 ∷ []) $ by ! (exits r cs lg e lc run-is was))))))))))))))))))))))))))
 
 module _ {M : Type 1} (𝓤 : URA M) (H : Heap 𝓤) (A : Atoms 𝓤) (W : Given 𝓤 H A) (at-mem : Memory → SProp 𝓤) (run : Routine → Fun 𝓤) where
   f-walks : (C : Calls 𝓤 H) (Λ : Loops 𝓤 H) → FmC 𝓤 H (W .laws) C → Triple 𝓤 (C #run-schedule) (Callee 𝓤 H A at-mem run) → Walks 𝓤 H A f.ended stayed (WpFn 𝓤 H C Λ code.function) (f.clauses 𝓤 H A at-mem run)
   f-walks C Λ fm known = walked 𝓤 H A f.ended stayed (f.clauses 𝓤 H A at-mem run) (WpFn 𝓤 H C Λ code.function) (λ κs. (LL.vals N.the-type N′.the-laws, (slice-vals, (slice-vals, (slice-vals, (slice-vals, (rows-vals, tt)))))))
-      (λ κs. (LL.tells N.the-type N′.the-laws, (shr-slice-tells (named 0) (κs .0) u32, (shr-slice-tells (named 1) (κs .1 .0) f64, (mut-slice-tells (named 2) (κs .1 .1 .0) f64, (shr-slice-tells (named 3) (κs .1 .1 .1 .0) u8, (array-tells R.the-row (LL.vals R.the-type R′.the-laws) (LL.tells R.the-type R′.the-laws) 2048, tt)))))))
-      (λ κs qs bounds a _ are. via 𝓤 _ (fst∗ 𝓤 _ (emp 𝓤)) (walk 𝓤 H A W at-mem run (κs .0) (κs .1 .0) (κs .1 .1 .0) (κs .1 .1 .1 .0) (qs .0) (qs .1 .0) (qs .1 .1 .0) (qs .1 .1 .1 .0) (a .0) (a .1 .0) (a .1 .1 .0) (a .1 .1 .1 .0) (a .1 .1 .1 .1 .0) (a .1 .1 .1 .1 .1 .0)
-      (are .0) (are .1 .0 .0 .1) (are .1 .1 .0 .0 .1) (are .1 .1 .1 .0 .0 .1) (are .1 .1 .1 .1 .0 .0 .1) (are .1 .1 .1 .1 .1 .0) C Λ fm known))
+      (λ κs. (
+        LL.tells N.the-type N′.the-laws,
+        (
+          shr-slice-tells (named 0) (κs .0) u32,
+          (shr-slice-tells (named 1) (κs .1 .0) f64, (mut-slice-tells (named 2) (κs .1 .1 .0) f64, (shr-slice-tells (named 3) (κs .1 .1 .1 .0) u8, (array-tells R.the-row (LL.vals R.the-type R′.the-laws) (LL.tells R.the-type R′.the-laws) 2048, tt)))),
+        ),
+      ))
+      (λ κs qs bounds a _ are. via 𝓤 _ (fst∗ 𝓤 _ (emp 𝓤)) (walk 𝓤 H A W at-mem run (κs .0) (κs .1 .0) (κs .1 .1 .0) (κs .1 .1 .1 .0) (qs .0) (qs .1 .0) (qs .1 .1 .0) (qs .1 .1 .1 .0)
+      (a .0) (a .1 .0) (a .1 .1 .0) (a .1 .1 .1 .0) (a .1 .1 .1 .1 .0) (a .1 .1 .1 .1 .1 .0) (are .0) (are .1 .0 .0 .1) (are .1 .1 .0 .0 .1) (are .1 .1 .1 .0 .0 .1) (are .1 .1 .1 .1 .0 .0 .1) (are .1 .1 .1 .1 .1 .0) C Λ fm known))
 
   goes : AllGo 𝓤 H A W 4 (f.signature .params) (f.ended .kept) stayed
   goes = (

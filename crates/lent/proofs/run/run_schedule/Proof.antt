@@ -60,19 +60,26 @@ use Rattle.lent.proofs.run.run_schedule.Code as code
 use Rattle.lent.proofs.run.run_schedule.Proof.Calls.{Passed, stayed, Begun, Advance, Put, x, at, passed, Ow, Oo, first, Begins, Post, typed-m, to-begun, goes-begun}
 use Rattle.lent.proofs.run.run_schedule.Proof.Turn.{loops}
 
-module _ {M : Type 1} (𝓤 : URA M) (H : Heap 𝓤) (A : Atoms 𝓤) (W : Given 𝓤 H A) (at-mem : Memory → SProp 𝓤) (run : Routine → Fun 𝓤) (z : Passed) (𝓣 : Tables 𝓤 H) (known-b : Triple 𝓤 (𝓣 .C #begun) (Begun 𝓤 H A at-mem run)) (known-g : Triple 𝓤 (𝓣 .C #advance) (Advance 𝓤 H A at-mem run)) (known-p : Triple 𝓤 (𝓣 .C #put-record) (Put 𝓤 H A at-mem run)) where
+module _ {M : Type 1} (𝓤 : URA M) (H : Heap 𝓤) (A : Atoms 𝓤) (W : Given 𝓤 H A) (at-mem : Memory → SProp 𝓤) (run : Routine → Fun 𝓤) (z : Passed) (𝓣 : Tables 𝓤 H)
+    (known-b : Triple 𝓤 (𝓣 .C #begun) (Begun 𝓤 H A at-mem run)) (known-g : Triple 𝓤 (𝓣 .C #advance) (Advance 𝓤 H A at-mem run))
+    (known-p : Triple 𝓤 (𝓣 .C #put-record) (Put 𝓤 H A at-mem run)) where
   open Passed z using (κ₀, κ₁, κ₂, κ₃, κ₄, q₀, q₁, q₂, q₃, q₄, ws, os, ws-room, os-room, cs-room₀, sch-room, lg-room₀)
 
   walk : ent 𝓤 (onEntry 𝓤 H A f.signature (κ₀, (κ₁, (κ₂, (κ₃, (κ₄, tt))))) (q₀, (q₁, (q₂, (q₃, (q₄, tt))))) (x z) (at z)) (WpFn 𝓤 H (𝓣 .C) (𝓣 .Λ) code.function (passed z) (Post 𝓤 H A W at-mem run z))
   walk =
-      qed W ((‵ (flft κ₀ q₀) ⊛ ‵ (flft κ₁ q₁) ⊛ ‵ (flft κ₂ q₂) ⊛ ‵ (flft κ₃ q₃) ⊛ ‵ (flft κ₄ q₄) ⊛ ‵ ftrue) ∷ ‵ (owns (N.the-row ∷ ShrSlice (named 0) κ₀ u32 ∷ ShrSlice (named 1) κ₁ f64 ∷ MutSlice (named 2) κ₂ f64 ∷ ShrSlice (named 3) κ₃ u8 ∷ MutSlice (named 4) κ₄ R.the-row ∷ []) (x z) (at z)) ∷ []) ∵
+      qed W ((‵ (flft κ₀ q₀) ⊛ ‵ (flft κ₁ q₁) ⊛ ‵ (flft κ₂ q₂) ⊛ ‵ (flft κ₃ q₃) ⊛ ‵ (flft κ₄ q₄) ⊛ ‵ ftrue)
+      ∷ ‵ (owns (N.the-row ∷ ShrSlice (named 0) κ₀ u32 ∷ ShrSlice (named 1) κ₁ f64 ∷ MutSlice (named 2) κ₂ f64 ∷ ShrSlice (named 3) κ₃ u8 ∷ MutSlice (named 4) κ₄ R.the-row ∷ []) (x z) (at z))
+      ∷ []) ∵
       split ! $ move ! (1 ∷ []) $ split ! $ move ! (1 ∷ []) $ split ! $ move ! (1 ∷ []) $ split ! $ move ! (1 ∷ []) $ split ! $ move ! (6 ∷ []) $
       fsplit ! $ move ! (1 ∷ []) $ fsplit ! $ move ! (1 ∷ []) $ fsplit ! $ move ! (1 ∷ []) $ fsplit ! $ move ! (1 ∷ []) $ fsplit ! $ move ! (1 ∷ []) $ fsplit ! $
       keep ! (12 ∷ 11 ∷ 10 ∷ 9 ∷ 7 ∷ 5 ∷ 4 ∷ 3 ∷ 2 ∷ 0 ∷ []) $
       -- [the five tokens; what words, operands, results, schedule and log own]
       enter ! (𝓣 .C) (𝓣 .Λ) code.function (passed z) _ $
-      alloc1 ! (λ l₀. alloc1 ! (λ l₁. alloc1 ! (λ l₂. alloc1 ! (λ l₃. alloc1 ! (λ l₄. alloc1 ! (λ l₅. alloc1 ! (λ l₆. alloc1 ! (λ l₇. alloc1 ! (λ l₈. alloc1 ! (λ l₉. alloc1 ! (λ l₁₀. alloc1 ! (λ l₁₁. alloc1 ! (λ l₁₂. alloc1 ! (λ l₁₃. alloc1 ! (λ l₁₄. alloc1 ! (λ l₁₅. alloc1 ! (λ l₁₆. alloc0 ! $ params1 ! $
-      pass1 ! (init ! 30 refl (typed-m 𝓤 H A W at-mem run z)) $ pass1 ! (init ! 28 refl (tt, (tt, (record { fits = ws-room .0 }, tt)))) $ pass1 ! (init ! 26 refl (tt, (tt, (record { fits = os-room .0 }, tt)))) $ pass1 ! (init ! 24 refl (tt, (tt, (record { fits = cs-room₀ .0 }, tt)))) $ pass1 ! (init ! 22 refl (tt, (tt, (record { fits = sch-room .0 }, tt)))) $ pass1 ! (init ! 20 refl (tt, (tt, (record { fits = lg-room₀ .0 }, tt)))) $ pass0 ! $
+      alloc1 ! (λ l₀. alloc1 ! (λ l₁. alloc1 ! (λ l₂. alloc1 ! (λ l₃. alloc1 ! (λ l₄. alloc1 ! (λ l₅. alloc1 ! (λ l₆. alloc1 ! (λ l₇. alloc1 ! (λ l₈. alloc1 ! (λ l₉. alloc1 ! (λ l₁₀.
+      alloc1 ! (λ l₁₁. alloc1 ! (λ l₁₂. alloc1 ! (λ l₁₃. alloc1 ! (λ l₁₄. alloc1 ! (λ l₁₅. alloc1 ! (λ l₁₆. alloc0 ! $ params1 ! $
+      pass1 ! (init ! 30 refl (typed-m 𝓤 H A W at-mem run z)) $ pass1 ! (init ! 28 refl (tt, (tt, (record { fits = ws-room .0 }, tt)))) $
+      pass1 ! (init ! 26 refl (tt, (tt, (record { fits = os-room .0 }, tt)))) $ pass1 ! (init ! 24 refl (tt, (tt, (record { fits = cs-room₀ .0 }, tt)))) $
+      pass1 ! (init ! 22 refl (tt, (tt, (record { fits = sch-room .0 }, tt)))) $ pass1 ! (init ! 20 refl (tt, (tt, (record { fits = lg-room₀ .0 }, tt)))) $ pass0 ! $
       assigns ! (of-opd ! (load ! (from ! (fld ! refl (stop !))) (look-in ! 20 (sub ! 1 refl (whole !))))) (from ! (stop !)) (init ! 18 refl (tt, record { fits = lg-room₀ .0 })) $
       assigns ! (of-opd ! (load ! (from ! (fld ! refl (stop !))) (look-in ! 24 (sub ! 1 refl (whole !))))) (from ! (stop !)) (init ! 12 refl (tt, record { fits = cs-room₀ .0 })) $
       -- a copy of each `&` is kept
@@ -80,8 +87,11 @@ module _ {M : Type 1} (𝓤 : URA M) (H : Heap 𝓤) (A : Atoms 𝓤) (W : Given
       move ! (2 ∷ []) $ use1 W (‵ (Oo z) ⊛ ‵ (Oo z)) (shr-slice-copy 𝓤 H A W (named 1) κ₁ f64 .twice os (slice-vals os)) $ split ! $
       move ! (38 ∷ 39 ∷ 2 ∷ 0 ∷ []) $ group ! 4 $ use1 W (raw (Begun 𝓤 H A at-mem run .pre (to-begun 𝓤 H A W at-mem run z))) (goes-begun 𝓤 H A W at-mem run z) $
       -- [what begun asks; a copy of operands', words'; _16 at 3; …; _0 at 35; …; the tokens of results, schedule, log; what they own]
-      calls-at ! (fmOf 𝓤 H (W .laws) 𝓣) (Begun 𝓤 H A at-mem run) known-b (to-begun 𝓤 H A W at-mem run z) (and-then ! (load ! (from ! (stop !)) (look ! 33 refl)) (and-then ! (load ! (from ! (stop !)) (look ! 31 refl)) (and-then ! (load ! (from ! (stop !)) (look ! 29 refl)) (and-then ! (load ! (from ! (stop !)) (look ! 15 refl)) (no-more !))))) (λ w.
-      use1 W (later (some (λ (r : Progress). ((‵ (flft κ₀ q₀) ⊛ ‵ (flft κ₁ q₁) ⊛ ‵ ftrue) ⊛ ‵ (T.the-row .own r (w ∷ []))) ⊛ raw (ensured 𝓤 H A b.ended (b.clauses 𝓤 H A at-mem run) (κ₀, (κ₁, tt)) (first z) tt r)))) (id⊢ 𝓤 _) $ await ! tt $ pick ! (λ r.
+      calls-at ! (fmOf 𝓤 H (W .laws) 𝓣) (Begun 𝓤 H A at-mem run) known-b (to-begun 𝓤 H A W at-mem run z)
+      (and-then ! (load ! (from ! (stop !)) (look ! 33 refl))
+      (and-then ! (load ! (from ! (stop !)) (look ! 31 refl)) (and-then ! (load ! (from ! (stop !)) (look ! 29 refl)) (and-then ! (load ! (from ! (stop !)) (look ! 15 refl)) (no-more !))))) (λ w.
+      use1 W (later (some (λ (r : Progress). ((‵ (flft κ₀ q₀) ⊛ ‵ (flft κ₁ q₁) ⊛ ‵ ftrue) ⊛ ‵ (T.the-row .own r (w ∷ []))) ⊛ raw (ensured 𝓤 H A b.ended (b.clauses 𝓤 H A at-mem run) (κ₀, (κ₁, tt)) (first z) tt r))))
+      (id⊢ 𝓤 _) $ await ! tt $ pick ! (λ r.
       split ! $ move ! (1 ∷ []) $ use1 W (some (λ (zs : Unit {0} × (Unit {0} × (Unit {0} × (Unit {0} × Unit {0})))). ‵ (lasts b.ended (κ₀, (κ₁, tt)) (first z) zs) ⊛ raw (fact 𝓤 (Begins z r)))) (id⊢ 𝓤 _) $ pick ! (λ zs.
       split ! $ move ! (1 ∷ []) $ heard ! (Begins z r) (λ e. drop ! $ split ! $ move ! (1 ∷ []) $ peeks ! T.the-row (Is T.the-row) (shows 𝓤 H A T.the-row) r (w ∷ []) (λ is. drop ! $
       -- [the tokens; operands', words'; _16 at 3; …]
@@ -91,10 +101,46 @@ module _ {M : Type 1} (𝓤 : URA M) (H : Heap 𝓤) (A : Atoms 𝓤) (W : Given
       by ! (loops 𝓤 H A W at-mem run z 𝓣 known-g known-p l₀ l₁ l₂ l₃ l₄ l₅ l₆ l₇ l₈ l₉ l₁₀ l₁₁ l₁₂ l₁₃ l₁₄ l₁₅ l₁₆ r e (subst (Is T.the-row r) (LL.tells T.the-type T′.the-laws r (w ∷ []) is) is))))))))))))))))))))))))
 
 module _ {M : Type 1} (𝓤 : URA M) (H : Heap 𝓤) (A : Atoms 𝓤) (W : Given 𝓤 H A) (at-mem : Memory → SProp 𝓤) (run : Routine → Fun 𝓤) where
-  f-walks : (𝓣 : Tables 𝓤 H) → Triple 𝓤 (𝓣 .C #begun) (Begun 𝓤 H A at-mem run) → Triple 𝓤 (𝓣 .C #advance) (Advance 𝓤 H A at-mem run) → Triple 𝓤 (𝓣 .C #put-record) (Put 𝓤 H A at-mem run) → Walks 𝓤 H A f.ended stayed (WpFn 𝓤 H (𝓣 .C) (𝓣 .Λ) code.function) (f.clauses 𝓤 H A at-mem run)
+  f-walks : (𝓣 : Tables 𝓤 H) → Triple 𝓤 (𝓣 .C #begun) (Begun 𝓤 H A at-mem run) → Triple 𝓤 (𝓣 .C #advance) (Advance 𝓤 H A at-mem run) → Triple 𝓤 (𝓣 .C #put-record) (Put 𝓤 H A at-mem run)
+      → Walks 𝓤 H A f.ended stayed (WpFn 𝓤 H (𝓣 .C) (𝓣 .Λ) code.function) (f.clauses 𝓤 H A at-mem run)
   f-walks 𝓣 known-b known-g known-p = walked 𝓤 H A f.ended stayed (f.clauses 𝓤 H A at-mem run) (WpFn 𝓤 H (𝓣 .C) (𝓣 .Λ) code.function) (λ κs. (LL.vals N.the-type N′.the-laws, (slice-vals, (slice-vals, (slice-vals, (slice-vals, (slice-vals, tt)))))))
-      (λ κs. (LL.tells N.the-type N′.the-laws, (shr-slice-tells (named 0) (κs .0) u32, (shr-slice-tells (named 1) (κs .1 .0) f64, (mut-slice-tells (named 2) (κs .1 .1 .0) f64, (shr-slice-tells (named 3) (κs .1 .1 .1 .0) u8, (mut-slice-tells (named 4) (κs .1 .1 .1 .1 .0) R.the-row, tt)))))))
-      (λ κs qs bounds a _ are. via 𝓤 _ (fst∗ 𝓤 _ (emp 𝓤)) (walk 𝓤 H A W at-mem run (record { κ₀ = κs .0; κ₁ = κs .1 .0; κ₂ = κs .1 .1 .0; κ₃ = κs .1 .1 .1 .0; κ₄ = κs .1 .1 .1 .1 .0; q₀ = qs .0; q₁ = qs .1 .0; q₂ = qs .1 .1 .0; q₃ = qs .1 .1 .1 .0; q₄ = qs .1 .1 .1 .1 .0; m = a .0; ws = a .1 .0; os = a .1 .1 .0; b₂ = a .1 .1 .1 .0 .ptr .0; o₂ = a .1 .1 .1 .0 .ptr .1; γ₂ = a .1 .1 .1 .0 .name; cs₀ = a .1 .1 .1 .0 .now; sch = a .1 .1 .1 .1 .0; b₄ = a .1 .1 .1 .1 .1 .0 .ptr .0; o₄ = a .1 .1 .1 .1 .1 .0 .ptr .1; γ₄ = a .1 .1 .1 .1 .1 .0 .name; lg₀ = a .1 .1 .1 .1 .1 .0 .now; m-is = are .0; ws-room = are .1 .0 .0 .1; os-room = are .1 .1 .0 .0 .1; cs-room₀ = are .1 .1 .1 .0 .0 .1; sch-room = are .1 .1 .1 .1 .0 .0 .1; lg-room₀ = are .1 .1 .1 .1 .1 .0 .0 .1 }) 𝓣 known-b known-g known-p))
+      (λ κs. (
+        LL.tells N.the-type N′.the-laws,
+        (
+          shr-slice-tells (named 0) (κs .0) u32,
+          (shr-slice-tells (named 1) (κs .1 .0) f64, (mut-slice-tells (named 2) (κs .1 .1 .0) f64, (shr-slice-tells (named 3) (κs .1 .1 .1 .0) u8, (mut-slice-tells (named 4) (κs .1 .1 .1 .1 .0) R.the-row, tt)))),
+        ),
+      ))
+      (λ κs qs bounds a _ are. via 𝓤 _ (fst∗ 𝓤 _ (emp 𝓤)) (walk 𝓤 H A W at-mem run (record {
+        κ₀ = κs .0;
+        κ₁ = κs .1 .0;
+        κ₂ = κs .1 .1 .0;
+        κ₃ = κs .1 .1 .1 .0;
+        κ₄ = κs .1 .1 .1 .1 .0;
+        q₀ = qs .0;
+        q₁ = qs .1 .0;
+        q₂ = qs .1 .1 .0;
+        q₃ = qs .1 .1 .1 .0;
+        q₄ = qs .1 .1 .1 .1 .0;
+        m = a .0;
+        ws = a .1 .0;
+        os = a .1 .1 .0;
+        b₂ = a .1 .1 .1 .0 .ptr .0;
+        o₂ = a .1 .1 .1 .0 .ptr .1;
+        γ₂ = a .1 .1 .1 .0 .name;
+        cs₀ = a .1 .1 .1 .0 .now;
+        sch = a .1 .1 .1 .1 .0;
+        b₄ = a .1 .1 .1 .1 .1 .0 .ptr .0;
+        o₄ = a .1 .1 .1 .1 .1 .0 .ptr .1;
+        γ₄ = a .1 .1 .1 .1 .1 .0 .name;
+        lg₀ = a .1 .1 .1 .1 .1 .0 .now;
+        m-is = are .0;
+        ws-room = are .1 .0 .0 .1;
+        os-room = are .1 .1 .0 .0 .1;
+        cs-room₀ = are .1 .1 .1 .0 .0 .1;
+        sch-room = are .1 .1 .1 .1 .0 .0 .1;
+        lg-room₀ = are .1 .1 .1 .1 .1 .0 .0 .1;
+      }) 𝓣 known-b known-g known-p))
 
   goes : AllGo 𝓤 H A W 5 (f.signature .params) (f.ended .kept) stayed
   goes = (
@@ -108,7 +154,8 @@ module _ {M : Type 1} (𝓤 : URA M) (H : Heap 𝓤) (A : Atoms 𝓤) (W : Given
     ),
   )
 
-f-meets : {M : Type 1} (𝓤 : URA M) (H : Heap 𝓤) (A : Atoms 𝓤) → Given 𝓤 H A → (at-mem : Memory → SProp 𝓤) (run : Routine → Fun 𝓤) (𝓣 : Tables 𝓤 H) → Triple 𝓤 (𝓣 .C #begun) (Begun 𝓤 H A at-mem run) → Triple 𝓤 (𝓣 .C #advance) (Advance 𝓤 H A at-mem run) → Triple 𝓤 (𝓣 .C #put-record) (Put 𝓤 H A at-mem run)
+f-meets : {M : Type 1} (𝓤 : URA M) (H : Heap 𝓤) (A : Atoms 𝓤) → Given 𝓤 H A → (at-mem : Memory → SProp 𝓤) (run : Routine → Fun 𝓤) (𝓣 : Tables 𝓤 H)
+    → Triple 𝓤 (𝓣 .C #begun) (Begun 𝓤 H A at-mem run) → Triple 𝓤 (𝓣 .C #advance) (Advance 𝓤 H A at-mem run) → Triple 𝓤 (𝓣 .C #put-record) (Put 𝓤 H A at-mem run)
     → Meets 𝓤 H A f.signature (WpFn 𝓤 H (𝓣 .C) (𝓣 .Λ) code.function) (f.spec 𝓤 H A at-mem run)
 f-meets 𝓤 H A W at-mem run 𝓣 known-b known-g known-p = walk-meets 𝓤 H A f.ended stayed W (goes 𝓤 H A W at-mem run) (f.clauses 𝓤 H A at-mem run) (WpFn 𝓤 H (𝓣 .C) (𝓣 .Λ) code.function) (WpFn-mono 𝓤 H (W .laws) 𝓣 code.function)
     (f-walks 𝓤 H A W at-mem run 𝓣 known-b known-g known-p)

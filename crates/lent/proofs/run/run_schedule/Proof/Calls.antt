@@ -239,7 +239,8 @@ module _ {M : Type 1} (𝓤 : URA M) (H : Heap 𝓤) (A : Atoms 𝓤) (W : Given
   to-advance r cs ν δ = (((κ₀, (κ₁, (ν ∷ [], (κ₃, tt)))), (q₀, (q₁, (fullShare, (q₃, tt)))), tt, gave z r cs δ, (val r ∷ [], (slice-vals ws, (slice-vals os, (s₂ z cs ∷ [], (slice-vals sch, (vint w64 (length lg₀) ∷ [], tt))))))), tt)
 
   pub goes-advance : (r : Progress) (cs : List Float) (ν : ℕ) (δ : GName) → Is T.the-row r (val r ∷ [])
-      → ent 𝓤 (⋆ 𝓤 H A (‵ (flft κ₀ q₀) ∷ ‵ (flft κ₁ q₁) ∷ ‵ (flft (ν ∷ []) fullShare) ∷ ‵ (flft κ₃ q₃) ∷ ‵ (Ow z) ∷ ‵ (Oo z) ∷ ‵ (MutSlice (named 2) (ν ∷ []) f64 .own (at₂ z δ cs) (s₂ z cs ∷ [])) ∷ ‵ (Os z) ∷ [])) (Advance 𝓤 H A at-mem run .pre (to-advance r cs ν δ))
+      → ent 𝓤 (⋆ 𝓤 H A (‵ (flft κ₀ q₀) ∷ ‵ (flft κ₁ q₁) ∷ ‵ (flft (ν ∷ []) fullShare) ∷ ‵ (flft κ₃ q₃) ∷ ‵ (Ow z) ∷ ‵ (Oo z) ∷ ‵ (MutSlice (named 2) (ν ∷ []) f64 .own (at₂ z δ cs) (s₂ z cs ∷ [])) ∷ ‵ (Os z) ∷ []))
+      (Advance 𝓤 H A at-mem run .pre (to-advance r cs ν δ))
   goes-advance r cs ν δ is =
       qed W (‵ (flft κ₀ q₀) ∷ ‵ (flft κ₁ q₁) ∷ ‵ (flft (ν ∷ []) fullShare) ∷ ‵ (flft κ₃ q₃) ∷ ‵ (Ow z) ∷ ‵ (Oo z) ∷ ‵ (MutSlice (named 2) (ν ∷ []) f64 .own (at₂ z δ cs) (s₂ z cs ∷ [])) ∷ ‵ (Os z) ∷ []) ∵
       nothing ! $ owned ! usize (Is usize) (uint-makes 𝓤 H A W w64) (length lg₀) _ (refl, lg-room₀ .0) $ fjoin ! $ move ! (8 ∷ 0 ∷ []) $ fjoin ! $ move ! (7 ∷ 0 ∷ []) $ fjoin ! $ move ! (6 ∷ 0 ∷ []) $ fjoin ! $ move ! (5 ∷ 0 ∷ []) $ fjoin ! $
@@ -253,7 +254,8 @@ module _ {M : Type 1} (𝓤 : URA M) (H : Heap 𝓤) (A : Atoms 𝓤) (W : Given
       → ent 𝓤 (⋆ 𝓤 H A (‵ (flft (ν ∷ []) fullShare) ∷ ‵ (MutSlice (named 0) (ν ∷ []) R.the-row .own (at₄ z δ lg) (s₄ z lg ∷ [])) ∷ [])) (Put 𝓤 H A at-mem run .pre (to-put lg y ν δ))
   goes-put lg y vs ν δ is =
       qed W (‵ (flft (ν ∷ []) fullShare) ∷ ‵ (MutSlice (named 0) (ν ∷ []) R.the-row .own (at₄ z δ lg) (s₄ z lg ∷ [])) ∷ []) ∵
-      nothing ! $ owned ! R.the-row (Is R.the-row) (LL.makes R.the-type R′.the-plain 𝓤 H A) (y .made) _ (is-made y vs is) $ fjoin ! $ owned ! usize (Is usize) (uint-makes 𝓤 H A W w64) (y .index) _ (refl, index-fits y vs is) $ fjoin ! $ move ! (2 ∷ 0 ∷ []) $ fjoin ! $
+      nothing ! $ owned ! R.the-row (Is R.the-row) (LL.makes R.the-type R′.the-plain 𝓤 H A) (y .made) _ (is-made y vs is) $ fjoin ! $
+      owned ! usize (Is usize) (uint-makes 𝓤 H A W w64) (y .index) _ (refl, index-fits y vs is) $ fjoin ! $ move ! (2 ∷ 0 ∷ []) $ fjoin ! $
       nothing ! $ move ! (2 ∷ 0 ∷ []) $ join ! $ join ! $ frame ! $ done !
 
   -- ---- the end of the walk
@@ -261,7 +263,8 @@ module _ {M : Type 1} (𝓤 : URA M) (H : Heap 𝓤) (A : Atoms 𝓤) (W : Given
       → ent 𝓤 (⋆ 𝓤 H A (‵ (flft κ₀ q₀) ∷ ‵ (flft κ₁ q₁) ∷ ‵ (flft κ₂ q₂) ∷ ‵ (flft κ₃ q₃) ∷ ‵ (flft κ₄ q₄) ∷ ‵ (Or z cs) ∷ ‵ (Ol z lg) ∷ [])) (Post (val r))
   exits r cs lg e lc ll is =
       qed W (‵ (flft κ₀ q₀) ∷ ‵ (flft κ₁ q₁) ∷ ‵ (flft κ₂ q₂) ∷ ‵ (flft κ₃ q₃) ∷ ‵ (flft κ₄ q₄) ∷ ‵ (Or z cs) ∷ ‵ (Ol z lg) ∷ []) ∵
-      suffices ! _ (ends-at 𝓤 H A f.ended stayed (f.clauses 𝓤 H A at-mem run) W (((κ₀, (κ₁, (κ₂, (κ₃, (κ₄, tt))))), (q₀, (q₁, (q₂, (q₃, (q₄, tt))))), tt, x z, at z), tt) (val r) r (tt, (tt, (tt, (cs, (tt, (lg, tt)))))) (tt, (tt, (tt, (lc, (tt, (ll, tt))))))) $
+      suffices ! _ (ends-at 𝓤 H A f.ended stayed (f.clauses 𝓤 H A at-mem run) W (((κ₀, (κ₁, (κ₂, (κ₃, (κ₄, tt))))), (q₀, (q₁, (q₂, (q₃, (q₄, tt))))), tt, x z, at z), tt) (val r) r
+      (tt, (tt, (tt, (cs, (tt, (lg, tt)))))) (tt, (tt, (tt, (lc, (tt, (ll, tt))))))) $
       says ! (run-answers m (ws .now) (os .now) cs₀ (sch .now) lg₀ (shaped m _ m-is) e) $
       nothing ! $ move ! (5 ∷ 0 ∷ []) $ join ! $ move ! (4 ∷ 0 ∷ []) $ join ! $ move ! (3 ∷ 0 ∷ []) $ join ! $ move ! (2 ∷ 0 ∷ []) $ join ! $ move ! (1 ∷ 0 ∷ []) $ join ! $ frame ! $
       rewrite ! 0 (λ (m : ℕ). ‵ (MutSlice (named 2) κ₂ f64 .own (at₂ z γ₂ cs) (sliceVal (b₂, o₂) m ∷ []))) lc refl $ rewrite ! 1 (λ (m : ℕ). ‵ (MutSlice (named 4) κ₄ R.the-row .own (at₄ z γ₄ lg) (sliceVal (b₄, o₄) m ∷ []))) ll refl $
