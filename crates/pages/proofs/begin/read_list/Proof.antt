@@ -22,18 +22,24 @@ same-length c = search needs
 
 returns-3 : tie.Need-returns-3
 returns-3 c =
-    let a = c .before .before .before .before .before .before .before .before .before .before .args in
+    let short = c .before .before .before .before .before .before in
+    let s = short .before .before .before .before in
+    let a = s .args in
     let l = c .before .before .before .before .read in
-    list-refused (a .bytes .now) (a .found) (l .last .1 .0) (not-false _ (c .before .before .before .before .before .before .before .if1 .left)) (c .before .before .before .before .before .before .if2 .left) (a .words .now) (c .before .before .before .before .before .before .before .before .before .before .pre) (l .result) (l .ensures .0) (c .if3 .taken)
+    list-refused (a .bytes .now) (a .found) (l .last .1 .0) (not-false _ (short .before .if1 .left)) (short .if2 .left) (a .words .now) (s .pre)
+    (l .result) (l .ensures .0) (c .if3 .taken)
 
 same-length-2 : tie.Need-same-length-2
 same-length-2 c = search needs
 
 returns-4 : tie.Need-returns-4
 returns-4 c =
-    let a = c .before .before .before .before .before .before .before .before .before .before .args in
+    let short = c .before .before .before .before .before .before in
+    let s = short .before .before .before .before in
+    let a = s .args in
     let l = c .before .before .before .before .read in
-    list-taken (a .bytes .now) (a .found) (l .last .1 .0) (not-false _ (c .before .before .before .before .before .before .before .if1 .left)) (c .before .before .before .before .before .before .if2 .left) (a .words .now) (c .before .before .before .before .before .before .before .before .before .before .pre) (l .result) (l .ensures .0) (c .if3 .left) (l .ensures .1)
+    list-taken (a .bytes .now) (a .found) (l .last .1 .0) (not-false _ (short .before .if1 .left)) (short .if2 .left) (a .words .now) (s .pre)
+    (l .result) (l .ensures .0) (c .if3 .left) (l .ensures .1)
 
 pub read-list-spec : {M : Type 1} → statement M
 read-list-spec =

@@ -7,6 +7,7 @@ use Rattle.pages.proofs.Putting.{within, in-then, left-room, room-in}
 use Rattle.pages.proofs.page.put_answer.Statement.{statement}
 use Rattle.pages.proofs.page.put_answer.Tie as tie
 
+-- in each: where a part of the line has been put has that part's name, `to-` and the name is the line up to it, and `s` is where the function begins
 put-decimal-requires : tie.Need-put-decimal-requires
 put-decimal-requires c κs =
     let s = c .before .before in
@@ -19,18 +20,35 @@ put-text-requires c κs =
 
 put-decimal-requires-2 : tie.Need-put-decimal-requires-2
 put-decimal-requires-2 c κs =
-    let s = c .before .before .before .before .before .before .before .before .before .before .before in
-    room-in 20 (decimal (s .args .place)) (left-room 45 20 (s .pre) (in-then (within 20 (c .before .before .before .before .before .before .before .before .put-decimal .ensures) (decimal-size (s .args .number) (omega arith))) (within 4 (c .before .before .before .put-text .ensures) (omega arith))) (omega arith)) (decimal-size (s .args .place) (omega arith))
+    let between = c .before .before .before in
+    let number = between .before .before .before .before .before in
+    let s = number .before .before .before in
+    let to-number = within 20 (number .put-decimal .ensures) (decimal-size (s .args .number) (omega arith)) in
+    let to-between = in-then to-number (within 4 (between .put-text .ensures) (omega arith)) in
+    room-in 20 (decimal (s .args .place)) (left-room 45 20 (s .pre) to-between (omega arith)) (decimal-size (s .args .place) (omega arith))
 
 put-text-requires-2 : tie.Need-put-text-requires-2
 put-text-requires-2 c κs =
-    let s = c .before .before .before .before .before .before .before .before .before .before .before .before .before .before .before .before in
-    room-in 1 lineEnd (left-room 45 1 (s .pre) (in-then (in-then (within 20 (c .before .before .before .before .before .before .before .before .before .before .before .before .before .put-decimal .ensures) (decimal-size (s .args .number) (omega arith))) (within 4 (c .before .before .before .before .before .before .before .before .put-text .ensures) (omega arith))) (within 20 (c .before .before .before .before .put-decimal2 .ensures) (decimal-size (s .args .place) (omega arith)))) (omega arith)) (omega arith)
+    let place = c .before .before .before .before in
+    let between = place .before .before .before .before in
+    let number = between .before .before .before .before .before in
+    let s = number .before .before .before in
+    let to-number = within 20 (number .put-decimal .ensures) (decimal-size (s .args .number) (omega arith)) in
+    let to-between = in-then to-number (within 4 (between .put-text .ensures) (omega arith)) in
+    let to-place = in-then to-between (within 20 (place .put-decimal2 .ensures) (decimal-size (s .args .place) (omega arith))) in
+    room-in 1 lineEnd (left-room 45 1 (s .pre) to-place (omega arith)) (omega arith)
 
 returns : tie.Need-returns
 returns c =
-    let s = c .before .before .before .before .before .before .before .before .before .before .before .before .before .before .before .before .before .before .before in
-    in-then (in-then (in-then (within 20 (c .before .before .before .before .before .before .before .before .before .before .before .before .before .before .before .before .put-decimal .ensures) (decimal-size (s .args .number) (omega arith))) (within 4 (c .before .before .before .before .before .before .before .before .before .before .before .put-text .ensures) (omega arith))) (within 20 (c .before .before .before .before .before .before .before .put-decimal2 .ensures) (decimal-size (s .args .place) (omega arith)))) (within 1 (c .before .before .put-text2 .ensures) (omega arith))
+    let end = c .before .before in
+    let place = end .before .before .before .before .before in
+    let between = place .before .before .before .before in
+    let number = between .before .before .before .before .before in
+    let s = number .before .before .before in
+    let to-number = within 20 (number .put-decimal .ensures) (decimal-size (s .args .number) (omega arith)) in
+    let to-between = in-then to-number (within 4 (between .put-text .ensures) (omega arith)) in
+    let to-place = in-then to-between (within 20 (place .put-decimal2 .ensures) (decimal-size (s .args .place) (omega arith))) in
+    in-then to-place (within 1 (end .put-text2 .ensures) (omega arith))
 
 pub put-answer-spec : {M : Type 1} → statement M
 put-answer-spec =

@@ -5,7 +5,13 @@ use Rattle.pages.proofs.page.put_head.Tie as tie
 
 returns : tie.Need-returns
 returns c =
-    in-then (in-then (in-then (in-then (c .before .before .before .before .before .before .before .before .before .before .before .before .before .before .before .before .before .before .before .before .put-count .ensures) (c .before .before .before .before .before .before .before .before .before .before .before .before .before .before .before .before .put-refusal .ensures)) (c .before .before .before .before .before .before .before .before .before .before .before .put-count2 .ensures)) (c .before .before .before .before .before .before .before .put-registers .ensures)) (c .before .before .put-count3 .ensures)
+    let records = c .before .before in
+    let registers = records .before .before .before .before .before in
+    let left = registers .before .before .before .before in
+    let refusal = left .before .before .before .before .before in
+    let steps = refusal .before .before .before .before in
+    in-then (in-then (in-then (in-then (steps .put-count .ensures) (refusal .put-refusal .ensures)) (left .put-count2 .ensures)) (registers .put-registers .ensures))
+    (records .put-count3 .ensures)
 
 pub put-head-spec : {M : Type 1} → statement M
 put-head-spec =

@@ -6,8 +6,13 @@ use Rattle.pages.proofs.page.put_registers.Tie as tie
 
 returns : tie.Need-returns
 returns c =
-    let s = c .before .before .before .before .before .before .before .before .before .before .before .before .before .before .before .before .before .before .before .before .before in
-    rw (four-lines (s .args .t3) (search needs)) (in-then (in-then (in-then (c .before .before .before .before .before .before .before .before .before .before .before .before .before .before .before .before .before .put-register .ensures) (c .before .before .before .before .before .before .before .before .before .before .before .before .put-register2 .ensures)) (c .before .before .before .before .before .before .before .put-register3 .ensures)) (c .before .before .put-register4 .ensures))
+    let fourth = c .before .before in
+    let third = fourth .before .before .before .before .before in
+    let second = third .before .before .before .before .before in
+    let first = second .before .before .before .before .before in
+    let s = first .before .before .before .before in
+    rw (four-lines (s .args .t3) (search needs))
+    (in-then (in-then (in-then (first .put-register .ensures) (second .put-register2 .ensures)) (third .put-register3 .ensures)) (fourth .put-register4 .ensures))
 
 pub put-registers-spec : {M : Type 1} → statement M
 put-registers-spec =

@@ -13,8 +13,12 @@ returns c = printed-none _ (c .if1 .taken)
 
 returns-2 : tie.Need-returns-2
 returns-2 c =
-    let a = c .before .before .before .before .before .before .before .before .before .before .before .before .before .before .before .before .args in
-    rw (stop-text (a .named) (a .list .now) (a .operands .now) (a .schedule .now) (c .before .before .before .before .before .before .before .before .begin .ensures) (sym (c .before .before .before .before .before .stops .ensures) ∙ c .before .before .before .before .if2 .taken)) (printed-put (c .before .before .before .before .before .before .before .before .before .before .before .if1 .left) (c .before .before .put-stop .ensures))
+    let begun = c .before .before .before .before .before .before .before .before in
+    let room = begun .before .before .before in
+    let a = room .before .before .before .before .before .args in
+    rw
+    (stop-text (a .named) (a .list .now) (a .operands .now) (a .schedule .now) (begun .begin .ensures) (sym (c .before .before .before .before .before .stops .ensures) ∙ c .before .before .before .before .if2 .taken))
+    (printed-put (room .if1 .left) (c .before .before .put-stop .ensures))
 
 slice-aggregate-ran : tie.Need-slice-aggregate-ran
 slice-aggregate-ran c =
@@ -31,9 +35,12 @@ ran-requires c κs = c .before .before .before .before .before .before .before .
 
 returns-3 : tie.Need-returns-3
 returns-3 c =
-    let a = c .before .before .before .before .before .before .before .before .before .before .before .before .before .before .before .before .before .before .args in
-    let r = c .before .before .before .before .before .before .before .before .before .before .begin in
-    rw (run-text (a .named) (a .list .now) (a .operands .now) (a .schedule .now) (r .ensures) (no-fault (r .result .fault) (sym (c .before .before .before .before .before .before .before .stops .ensures) ∙ c .before .before .before .before .before .before .if2 .left))) (printed-put (c .before .before .before .before .before .before .before .before .before .before .before .before .before .if1 .left) (c .before .before .ran .ensures))
+    let begun = c .before .before .before .before .before .before .before .before .before .before in
+    let room = begun .before .before .before in
+    let a = room .before .before .before .before .before .args in
+    let r = begun .begin in
+    let no-stop = no-fault (r .result .fault) (sym (c .before .before .before .before .before .before .before .stops .ensures) ∙ c .before .before .before .before .before .before .if2 .left) in
+    rw (run-text (a .named) (a .list .now) (a .operands .now) (a .schedule .now) (r .ensures) no-stop) (printed-put (room .if1 .left) (c .before .before .ran .ensures))
 
 pub report-spec : {M : Type 1} → statement M
 report-spec =

@@ -5,6 +5,7 @@ use Rattle.pages.proofs.Putting.{in-more, within, in-then, left-room, r
 use Rattle.pages.proofs.stop.put_refused.Statement.{statement}
 use Rattle.pages.proofs.stop.put_refused.Tie as tie
 
+-- in each: where a part of the line has been put has that part's name, `to-` and the name is the line up to it, and `s` is where the function begins
 put-text-requires : tie.Need-put-text-requires
 put-text-requires c κs =
     let s = c .before .before .before .before in
@@ -17,18 +18,36 @@ put-text-requires-2 c κs =
 
 put-text-requires-3 : tie.Need-put-text-requires-3
 put-text-requires-3 c κs =
-    let s = c .before .before .before .before .before .before .before .before .before .before .before .before .before in
-    room-in 1 space (left-room 131072 1 (s .pre .1) (in-then (within 8 (c .before .before .before .before .before .before .before .before .put-text .ensures) (omega arith)) (within 8 (c .before .before .before .before .put-text2 .ensures) (s .pre .0))) (omega arith)) (omega arith)
+    let name = c .before .before .before .before in
+    let label = name .before .before .before .before in
+    let s = label .before .before .before .before .before in
+    let to-label = within 8 (label .put-text .ensures) (omega arith) in
+    let to-name = in-then to-label (within 8 (name .put-text2 .ensures) (s .pre .0)) in
+    room-in 1 space (left-room 131072 1 (s .pre .1) to-name (omega arith)) (omega arith)
 
 put-answer-requires : tie.Need-put-answer-requires
 put-answer-requires c κs =
-    let s = c .before .before .before .before .before .before .before .before .before .before .before .before .before .before .before .before .before in
-    (left-room 131072 45 (s .pre .1) (in-then (in-then (within 8 (c .before .before .before .before .before .before .before .before .before .before .before .before .put-text .ensures) (omega arith)) (within 8 (c .before .before .before .before .before .before .before .before .put-text2 .ensures) (s .pre .0))) (within 1 (c .before .before .before .put-text3 .ensures) (omega arith))) (omega arith))
+    let gap = c .before .before .before in
+    let name = gap .before .before .before .before .before in
+    let label = name .before .before .before .before in
+    let s = label .before .before .before .before .before in
+    let to-label = within 8 (label .put-text .ensures) (omega arith) in
+    let to-name = in-then to-label (within 8 (name .put-text2 .ensures) (s .pre .0)) in
+    let to-gap = in-then to-name (within 1 (gap .put-text3 .ensures) (omega arith)) in
+    left-room 131072 45 (s .pre .1) to-gap (omega arith)
 
 returns : tie.Need-returns
 returns c =
-    let s = c .before .before .before .before .before .before .before .before .before .before .before .before .before .before .before .before .before .before .before .before in
-    in-more 131072 (in-then (in-then (in-then (within 8 (c .before .before .before .before .before .before .before .before .before .before .before .before .before .before .before .put-text .ensures) (omega arith)) (within 8 (c .before .before .before .before .before .before .before .before .before .before .before .put-text2 .ensures) (s .pre .0))) (within 1 (c .before .before .before .before .before .before .put-text3 .ensures) (omega arith))) (c .before .before .put-answer .ensures)) (omega arith)
+    let answer = c .before .before in
+    let gap = answer .before .before .before .before in
+    let name = gap .before .before .before .before .before in
+    let label = name .before .before .before .before in
+    let s = label .before .before .before .before .before in
+    let to-label = within 8 (label .put-text .ensures) (omega arith) in
+    let to-name = in-then to-label (within 8 (name .put-text2 .ensures) (s .pre .0)) in
+    let to-gap = in-then to-name (within 1 (gap .put-text3 .ensures) (omega arith)) in
+    let to-answer = in-then to-gap (answer .put-answer .ensures) in
+    in-more 131072 to-answer (omega arith)
 
 pub put-refused-spec : {M : Type 1} → statement M
 put-refused-spec =
