@@ -62,7 +62,10 @@ use Rattle.in_place.proofs.step_by_place.Statement as stated
 use Rattle.in_place.proofs.step_by_place.Code as code
 
 abbrev stayed : Stays (f.ended .signature .params) (f.ended .kept)
-stayed = (stay-dropped (plain (λ _. T.the-row)) yes, (stay-dropped (shrSliceOf (0 ∷ []) tt (plain (λ _. u32))) yes, (stay-dropped (shrSliceOf (1 ∷ []) tt (plain (λ _. f64))) yes, (gave-slice (2 ∷ []) tt (plain (λ _. f64)), (stay-dropped (plain (λ _. u32)) yes, tt)))))
+stayed = (
+  stay-dropped (plain (λ _. T.the-row)) yes,
+  (stay-dropped (shrSliceOf (0 ∷ []) tt (plain (λ _. u32))) yes, (stay-dropped (shrSliceOf (1 ∷ []) tt (plain (λ _. f64))) yes, (gave-slice (2 ∷ []) tt (plain (λ _. f64)), (stay-dropped (plain (λ _. u32)) yes, tt)))),
+)
 
 abbrev val : Machine → Val
 val = LL.val T.the-type T′.the-laws
@@ -77,7 +80,9 @@ answer h r = record { machine = h; refusal = r }
 abbrev Callee : {M : Type 1} (𝓤 : URA M) (H : Heap 𝓤) (A : Atoms 𝓤) (mem : Memory → SProp 𝓤) (run : Routine → Fun 𝓤) → Contract 𝓤
 Callee 𝓤 H A mem run = tripleOf 𝓤 H A g.signature (g.spec 𝓤 H A mem run)
 
-module _ {M : Type 1} (𝓤 : URA M) (H : Heap 𝓤) (A : Atoms 𝓤) (W : Given 𝓤 H A) (at-mem : Memory → SProp 𝓤) (run : Routine → Fun 𝓤) (κ₀ κ₁ κ₂ : Lft) (q₀ q₁ q₂ : Share) (h : Machine) (ws : RefT (List ℕ)) (os rs : RefT (List Float)) (n : ℕ) (h-is : Is T.the-row h (val h ∷ [])) (ws-room : Room u32 (length (ws .now))) (os-room : Room f64 (length (os .now))) (rs-room : Room f64 (length (rs .now))) (n-fits : n < 2 ^ 32) where
+module _ {M : Type 1} (𝓤 : URA M) (H : Heap 𝓤) (A : Atoms 𝓤) (W : Given 𝓤 H A) (at-mem : Memory → SProp 𝓤) (run : Routine → Fun 𝓤) (κ₀ κ₁ κ₂ : Lft) (q₀ q₁ q₂ : Share) (h : Machine)
+    (ws : RefT (List ℕ)) (os rs : RefT (List Float)) (n : ℕ) (h-is : Is T.the-row h (val h ∷ [])) (ws-room : Room u32 (length (ws .now))) (os-room : Room f64 (length (os .now)))
+    (rs-room : Room f64 (length (rs .now))) (n-fits : n < 2 ^ 32) where
   abbrev Arg : Type 0
   Arg = Machine × (RefT (List ℕ) × (RefT (List Float) × (RefT (List Float) × (ℕ × Unit {0}))))
 
@@ -114,10 +119,12 @@ module _ {M : Type 1} (𝓤 : URA M) (H : Heap 𝓤) (A : Atoms 𝓤) (W : Given
   to-step l ν γ = (((ν ∷ [], (κ₀, (κ₁, (κ₂, tt)))), (fullShare, (q₀, (q₁, (q₂, tt)))), tt, gave l γ, (vptr l 0 ∷ [], (slice-vals ws, (slice-vals os, (slice-vals rs, (vint w32 n ∷ [], tt)))))), tt)
 
   goes-step : (l ν : ℕ) (γ : GName)
-      → ent 𝓤 (⋆ 𝓤 H A (‵ (flft (ν ∷ []) fullShare) ∷ ‵ (flft κ₀ q₀) ∷ ‵ (flft κ₁ q₁) ∷ ‵ (flft κ₂ q₂) ∷ ‵ (MutRef (named 0) (ν ∷ []) T.the-row .own (lent l γ) (vptr l 0 ∷ [])) ∷ ‵ (ShrSlice (named 0) κ₀ u32 .own ws (slice-vals ws)) ∷ ‵ (ShrSlice (named 1) κ₁ f64 .own os (slice-vals os)) ∷ ‵ (MutSlice (named 2) κ₂ f64 .own rs (slice-vals rs)) ∷ []))
+      → ent 𝓤 (⋆ 𝓤 H A (‵ (flft (ν ∷ []) fullShare) ∷ ‵ (flft κ₀ q₀) ∷ ‵ (flft κ₁ q₁) ∷ ‵ (flft κ₂ q₂) ∷ ‵ (MutRef (named 0) (ν ∷ []) T.the-row .own (lent l γ) (vptr l 0 ∷ []))
+      ∷ ‵ (ShrSlice (named 0) κ₀ u32 .own ws (slice-vals ws)) ∷ ‵ (ShrSlice (named 1) κ₁ f64 .own os (slice-vals os)) ∷ ‵ (MutSlice (named 2) κ₂ f64 .own rs (slice-vals rs)) ∷ []))
       (Callee 𝓤 H A at-mem run .pre (to-step l ν γ))
   goes-step l ν γ =
-      qed W (‵ (flft (ν ∷ []) fullShare) ∷ ‵ (flft κ₀ q₀) ∷ ‵ (flft κ₁ q₁) ∷ ‵ (flft κ₂ q₂) ∷ ‵ (MutRef (named 0) (ν ∷ []) T.the-row .own (lent l γ) (vptr l 0 ∷ [])) ∷ ‵ (ShrSlice (named 0) κ₀ u32 .own ws (slice-vals ws)) ∷ ‵ (ShrSlice (named 1) κ₁ f64 .own os (slice-vals os)) ∷ ‵ (MutSlice (named 2) κ₂ f64 .own rs (slice-vals rs)) ∷ []) ∵
+      qed W (‵ (flft (ν ∷ []) fullShare) ∷ ‵ (flft κ₀ q₀) ∷ ‵ (flft κ₁ q₁) ∷ ‵ (flft κ₂ q₂) ∷ ‵ (MutRef (named 0) (ν ∷ []) T.the-row .own (lent l γ) (vptr l 0 ∷ []))
+      ∷ ‵ (ShrSlice (named 0) κ₀ u32 .own ws (slice-vals ws)) ∷ ‵ (ShrSlice (named 1) κ₁ f64 .own os (slice-vals os)) ∷ ‵ (MutSlice (named 2) κ₂ f64 .own rs (slice-vals rs)) ∷ []) ∵
       nothing ! $ owned ! u32 (Is u32) (uint-makes 𝓤 H A W w32) n _ (refl, n-fits) $ fjoin ! $ move ! (8 ∷ 0 ∷ []) $ fjoin ! $ move ! (7 ∷ 0 ∷ []) $ fjoin ! $ move ! (6 ∷ 0 ∷ []) $ fjoin ! $ move ! (5 ∷ 0 ∷ []) $ fjoin ! $
       -- [what the parameters own; the four tokens]
       nothing ! $ move ! (5 ∷ 0 ∷ []) $ join ! $ move ! (4 ∷ 0 ∷ []) $ join ! $ move ! (3 ∷ 0 ∷ []) $ join ! $ move ! (2 ∷ 0 ∷ []) $ join ! $ join ! $ frame ! $ done !
@@ -129,7 +136,9 @@ module _ {M : Type 1} (𝓤 : URA M) (H : Heap 𝓤) (A : Atoms 𝓤) (W : Given
       → ent 𝓤 (⋆ 𝓤 H A ((‵ (flft κ₀ q₀) ⊛ ‵ (flft κ₁ q₁) ⊛ ‵ (flft κ₂ q₂) ⊛ ‵ ftrue) ∷ ‵ (finally f64 (rs .name) zs) ∷ [])) (Post (val-s d r))
   exits d r zs is fits e l =
       qed W ((‵ (flft κ₀ q₀) ⊛ ‵ (flft κ₁ q₁) ⊛ ‵ (flft κ₂ q₂) ⊛ ‵ ftrue) ∷ ‵ (finally f64 (rs .name) zs) ∷ []) ∵
-      suffices ! _ (ends-at 𝓤 H A f.ended stayed (f.clauses 𝓤 H A at-mem run) W (((κ₀, (κ₁, (κ₂, tt))), (q₀, (q₁, (q₂, tt))), tt, x, at), tt) (val-s d r) (answer d r) (tt, (tt, (tt, (zs, (tt, tt))))) (tt, (tt, (tt, (l, (tt, tt)))))) $ says ! e $ frame ! $
+      suffices ! _ (ends-at 𝓤 H A f.ended stayed (f.clauses 𝓤 H A at-mem run) W (((κ₀, (κ₁, (κ₂, tt))), (q₀, (q₁, (q₂, tt))), tt, x, at), tt) (val-s d r) (answer d r) (tt, (tt, (tt, (zs, (tt, tt)))))
+      (tt, (tt, (tt, (l, (tt, tt)))))) $
+      says ! e $ frame ! $
       nothing ! $ nothing ! $ fjoin ! $ move ! (1 ∷ 0 ∷ []) $ fjoin ! $ nothing ! $ fjoin ! $ nothing ! $ fjoin ! $ nothing ! $ fjoin ! $
       owned ! S.the-row (Is S.the-row) (LL.makes S.the-type S′.the-plain 𝓤 H A) (answer d r) _ (made d r is fits) $ move ! (1 ∷ 0 ∷ []) $ done !
 
@@ -142,21 +151,34 @@ module _ {M : Type 1} (𝓤 : URA M) (H : Heap 𝓤) (A : Atoms 𝓤) (W : Given
         -- [the three tokens; what words, operands and results own]
         enter ! C Λ code.function passed _ $
         alloc1 ! (λ l₀. alloc1 ! (λ l₁. alloc1 ! (λ l₂. alloc1 ! (λ l₃. alloc1 ! (λ l₄. alloc1 ! (λ l₅. alloc1 ! (λ l₆. alloc1 ! (λ l₇. alloc1 ! (λ l₈. alloc1 ! (λ l₉. alloc1 ! (λ l₁₀. alloc1 ! (λ l₁₁. alloc0 ! $ params1 ! $
-        pass1 ! (init ! 20 refl (typed h h-is)) $ pass1 ! (init ! 18 refl (tt, (tt, (record { fits = ws-room .0 }, tt)))) $ pass1 ! (init ! 16 refl (tt, (tt, (record { fits = os-room .0 }, tt)))) $ pass1 ! (init ! 14 refl (tt, (tt, (record { fits = rs-room .0 }, tt)))) $ pass1 ! (init ! 12 refl (tt, record { fits = n-fits })) $ pass0 ! $
+        pass1 ! (init ! 20 refl (typed h h-is)) $ pass1 ! (init ! 18 refl (tt, (tt, (record { fits = ws-room .0 }, tt)))) $ pass1 ! (init ! 16 refl (tt, (tt, (record { fits = os-room .0 }, tt)))) $
+        pass1 ! (init ! 14 refl (tt, (tt, (record { fits = rs-room .0 }, tt)))) $ pass1 ! (init ! 12 refl (tt, record { fits = n-fits })) $ pass0 ! $
         -- [_11; …; _10; …; _9; …; _8; …; _7; …; _6 at 10; …; _5; …; _4; …; _3; …; _2; …; _1; …; room for _0; …; the tokens 24; what the slices own 27]
         assigns ! (of-opd ! (load ! (from ! (stop !)) (look ! 20 refl))) (from ! (stop !)) (init ! 10 refl (typed h h-is)) $
         assigns ! (addr ! (from ! (stop !))) (from ! (stop !)) (init ! 6 refl (tt, tt)) $
         assigns ! (addr ! (from ! (fld ! refl (hop ! (look-in ! 14 (sub ! 0 refl (whole !))) (stop !))))) (from ! (stop !)) (init ! 4 refl (tt, tt)) $
-        assigns ! (agg ! (and-then ! (load ! (from ! (stop !)) (look ! 4 refl)) (and-then ! (load ! (from ! (fld ! refl (stop !))) (look-in ! 14 (sub ! 1 refl (whole !)))) (no-more !)))) (from ! (stop !)) (init ! 2 refl (tt, (tt, (record { fits = rs-room .0 }, tt)))) $
+        assigns ! (agg ! (and-then ! (load ! (from ! (stop !)) (look ! 4 refl)) (and-then ! (load ! (from ! (fld ! refl (stop !))) (look-in ! 14 (sub ! 1 refl (whole !)))) (no-more !))))
+        (from ! (stop !)) (init ! 2 refl (tt, (tt, (record { fits = rs-room .0 }, tt)))) $
         -- the local is lent
         move ! (10 ∷ []) $ use1 W (‵ (cellAt fullShare (T.the-row .mir) (val h ∷ []) l₆ 0)) (W .laws .at-raw fullShare T′.mir l₆ 0 (val h)) $
         owned ! T.the-row (Is T.the-row) (LL.makes T.the-type T′.the-plain 𝓤 H A) h _ h-is $ move ! (1 ∷ 0 ∷ []) $ use2 W (‵ (mem T.the-row .lies h l₆ 0)) (lies-in 𝓤 H A W T.the-row h (val h ∷ []) l₆ 0) $
-        lft-new ! tt (λ ν. move ! (1 ∷ []) $ use1 W (later (some (λ (γ : GName). ‵ (MutRef (named 0) (ν ∷ []) T.the-row .own (lent l₆ γ) (vptr l₆ 0 ∷ [])) ⊛ ‵ (flent (ν ∷ []) (Body (mem T.the-row) l₆ 0 γ))))) (lends-ref 𝓤 H A W T.the-row (named 0) (ν ∷ []) h l₆ 0) $ await ! tt $ pick ! (λ γ. split ! $
+        lft-new ! tt (λ ν. move ! (1 ∷ []) $
+        use1 W (later (some (λ (γ : GName). ‵ (MutRef (named 0) (ν ∷ []) T.the-row .own (lent l₆ γ) (vptr l₆ 0 ∷ [])) ⊛ ‵ (flent (ν ∷ []) (Body (mem T.the-row) l₆ 0 γ)))))
+        (lends-ref 𝓤 H A W T.the-row (named 0) (ν ∷ []) h l₆ 0) $
+        await ! tt $ pick ! (λ γ. split ! $
         move ! (2 ∷ 26 ∷ 27 ∷ 28 ∷ 0 ∷ 29 ∷ 30 ∷ 31 ∷ []) $ group ! 8 $ use1 W (raw (Callee 𝓤 H A at-mem run .pre (to-step l₆ ν γ))) (goes-step l₆ ν γ) $
         -- [what the callee asks; the lender's part; _11 at 2; …; _7 at 10; …; that _6 dies; _5 at 13; …]
-        calls-at ! fm (Callee 𝓤 H A at-mem run) known (to-step l₆ ν γ) (and-then ! (load ! (from ! (stop !)) (look ! 8 refl)) (and-then ! (load ! (from ! (stop !)) (look ! 19 refl)) (and-then ! (load ! (from ! (stop !)) (look ! 17 refl)) (and-then ! (load ! (from ! (stop !)) (look ! 4 refl)) (and-then ! (load ! (from ! (stop !)) (look ! 13 refl)) (no-more !)))))) (λ w.
-        use1 W (later (some (λ (r : ℕ). ((‵ (flft (ν ∷ []) fullShare) ⊛ ‵ (flft κ₀ q₀) ⊛ ‵ (flft κ₁ q₁) ⊛ ‵ (flft κ₂ q₂) ⊛ ‵ ftrue) ⊛ ‵ (u32 .own r (w ∷ []))) ⊛ raw (ensured 𝓤 H A g.ended (g.clauses 𝓤 H A at-mem run) (ν ∷ [], (κ₀, (κ₁, (κ₂, tt)))) (gave l₆ γ) tt r)))) (id⊢ 𝓤 _) $ await ! tt $ pick ! (λ r.
-        split ! $ move ! (1 ∷ []) $ use1 W (some (λ (zs : Machine × (Unit {0} × (Unit {0} × (List Float × (Unit {0} × Unit {0}))))). ‵ (lasts g.ended (ν ∷ [], (κ₀, (κ₁, (κ₂, tt)))) (gave l₆ γ) zs) ⊛ raw (fact 𝓤 (Said r (zs .0) (zs .1 .1 .1 .0))))) (id⊢ 𝓤 _) $ pick ! (λ zs.
+        calls-at ! fm (Callee 𝓤 H A at-mem run) known (to-step l₆ ν γ)
+        (and-then ! (load ! (from ! (stop !)) (look ! 8 refl))
+        (and-then ! (load ! (from ! (stop !)) (look ! 19 refl))
+        (and-then ! (load ! (from ! (stop !)) (look ! 17 refl)) (and-then ! (load ! (from ! (stop !)) (look ! 4 refl)) (and-then ! (load ! (from ! (stop !)) (look ! 13 refl)) (no-more !)))))) (λ w.
+        use1 W (later (some (λ (r : ℕ). ((‵ (flft (ν ∷ []) fullShare) ⊛ ‵ (flft κ₀ q₀) ⊛ ‵ (flft κ₁ q₁) ⊛ ‵ (flft κ₂ q₂) ⊛ ‵ ftrue) ⊛ ‵ (u32 .own r (w ∷ [])))
+        ⊛ raw (ensured 𝓤 H A g.ended (g.clauses 𝓤 H A at-mem run) (ν ∷ [], (κ₀, (κ₁, (κ₂, tt)))) (gave l₆ γ) tt r))))
+        (id⊢ 𝓤 _) $ await ! tt $ pick ! (λ r.
+        split ! $ move ! (1 ∷ []) $
+        use1 W (some (λ (zs : Machine × (Unit {0} × (Unit {0} × (List Float × (Unit {0} × Unit {0}))))). ‵ (lasts g.ended (ν ∷ [], (κ₀, (κ₁, (κ₂, tt)))) (gave l₆ γ) zs)
+        ⊛ raw (fact 𝓤 (Said r (zs .0) (zs .1 .1 .1 .0)))))
+        (id⊢ 𝓤 _) $ pick ! (λ zs.
         let d : Machine = zs .0 in
         let cs : List Float = zs .1 .1 .1 .0 in
         split ! $ move ! (1 ∷ []) $ heard ! (Said r d cs) (λ e. fsplit ! $ move ! (1 ∷ []) $ fsplit ! $ drop ! $ fsplit ! $ drop ! $ fsplit ! $ fsplit ! $ move ! (1 ∷ []) $ feqL ! (λ l.
@@ -171,8 +193,10 @@ module _ {M : Type 1} (𝓤 : URA M) (H : Heap 𝓤) (A : Atoms 𝓤) (W : Given
         use1 W (‵ (fat fullShare T′.mir l₆ 0 (val d))) (W .laws .raw-at fullShare T′.mir l₆ 0 (val d)) $
         -- [_6; the other tokens; the last list; …; _11 at 4; …; _7 at 12; …; that _6 dies; _5 at 15; …; room for _0; …]
         assigns ! (of-opd ! (load ! (from ! (stop !)) (look ! 0 refl))) (from ! (stop !)) (init ! 4 refl (typed d was)) $
-        assigns ! (agg ! (and-then ! (load ! (from ! (stop !)) (look ! 4 refl)) (and-then ! (load ! (from ! (stop !)) (look ! 12 refl)) (no-more !)))) (from ! (stop !)) (init ! 25 refl (LL.lawful S.the-type S′.the-laws 𝓤 H A W .typed (answer d r) _ (made d r was (is .1)) .0)) $
-        returns ! (look ! 25 refl) $ forget ! 0 refl $ forget ! 4 refl $ forget ! 6 refl $ forget ! 8 refl $ forget ! 10 refl $ forget ! 12 refl $ forget ! 15 refl $ forget ! 17 refl $ forget ! 19 refl $ forget ! 21 refl $ forget ! 23 refl $ forget ! 25 refl $
+        assigns ! (agg ! (and-then ! (load ! (from ! (stop !)) (look ! 4 refl)) (and-then ! (load ! (from ! (stop !)) (look ! 12 refl)) (no-more !)))) (from ! (stop !))
+        (init ! 25 refl (LL.lawful S.the-type S′.the-laws 𝓤 H A W .typed (answer d r) _ (made d r was (is .1)) .0)) $
+        returns ! (look ! 25 refl) $ forget ! 0 refl $ forget ! 4 refl $ forget ! 6 refl $ forget ! 8 refl $ forget ! 10 refl $ forget ! 12 refl $ forget ! 15 refl $ forget ! 17 refl $
+        forget ! 19 refl $ forget ! 21 refl $ forget ! 23 refl $ forget ! 25 refl $
         move ! (25 ∷ 26 ∷ []) $ free1 ! $ move ! (23 ∷ 24 ∷ []) $ free1 ! $ move ! (21 ∷ 22 ∷ []) $ free1 ! $ move ! (19 ∷ 20 ∷ []) $ free1 ! $ move ! (17 ∷ 18 ∷ []) $ free1 ! $ move ! (15 ∷ 16 ∷ []) $ free1 ! $ move ! (0 ∷ 14 ∷ []) $ free1 ! $
         move ! (11 ∷ 12 ∷ []) $ free1 ! $ move ! (9 ∷ 10 ∷ []) $ free1 ! $ move ! (7 ∷ 8 ∷ []) $ free1 ! $ move ! (5 ∷ 6 ∷ []) $ free1 ! $ move ! (3 ∷ 4 ∷ []) $ free1 ! $ free0 ! $
         keep ! (0 ∷ 1 ∷ []) $ by ! (exits d r cs was (is .1) e l)))))))))))))))))))))))
