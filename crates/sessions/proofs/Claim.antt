@@ -20,5 +20,6 @@ use Rattle.sessions.specs.Session.{seen}
 use Rattle.sessions.specs.Table.{Claim}
 
 pub claim : Claim
-unfolding toBits reportText runOf run runFrom decimal pattern registerLine recordLine patternAt seen step goodOrder nothingLive drained perform stepOf decode giver slotOf countLeft fresh oneAtATime stepsLeft lowestPermitted lowestStep listCheck wordRefusal operationRefusal registerRefusal cellRefusal isRegister isCell numberIn numberAt bytesOf fieldAt operandAt r1At wordAt listIn wordBytes ofBits add sub mul div
+unfolding toBits reportText runOf run runFrom decimal pattern registerLine recordLine patternAt seen step goodOrder nothingLive drained perform stepOf decode giver slotOf countLeft fresh oneAtATime stepsLeft lowestPermitted lowestStep
+    listCheck wordRefusal operationRefusal registerRefusal cellRefusal isRegister isCell numberIn numberAt bytesOf fieldAt operandAt r1At wordAt listIn wordBytes ofBits add sub mul div
 claim = refl
