@@ -121,7 +121,8 @@ module _ (start : Progress) (words : List ℕ) (operands cells₀ : List Float) 
         laid
         ∙ ap (λ (l : List Record). sets row₀ 0 (rowWords l)) (take-all n log h ∙ sym (ap (take (n + 1)) (set-out log n made h) ∙ take-all (n + 1) log (omega arith)))
 
-    module _ (s : Stop) (cells′ : List Float) (row′ : List ℕ) (e : s ≡ advanced r words operands cells schedule room) (e′ : cells′ ≡ cellsAfter r words operands cells schedule room) (e″ : row′ ≡ loggedStop row s) (kept : length cells′ ≡ length cells) where
+    module _ (s : Stop) (cells′ : List Float) (row′ : List ℕ) (e : s ≡ advanced r words operands cells schedule room)
+        (e′ : cells′ ≡ cellsAfter r words operands cells schedule room) (e″ : row′ ≡ loggedStop row s) (kept : length cells′ ≡ length cells) where
       kept-length : length row ≡ length row₀ → (b : Bool) → length (cond b (sets row (s .index * 3) (recordWords (viewRecord (s .made)))) row) ≡ length row₀
       kept-length same true = length-sets row (s .index * 3) (recordWords (viewRecord (s .made))) ∙ same
       kept-length same false = same
