@@ -6,11 +6,8 @@ use Rattle.exports.specs.Entries.{ByRoom}
 pub not-first : {a : Bool} (b : Bool) → a ≡ false → a && b ≡ false
 not-first b e = ap (λ (x : Bool). x && b) e
 
-pub not-second : {a b : Bool} → a ≡ true → b ≡ false → a && b ≡ false
-not-second e f = (λ i. e i && f i)
-
-pub both-fit : {a b : Bool} → a ≡ true → b ≡ true → a && b ≡ true
-both-fit e f = (λ i. e i && f i)
+pub both-tests : {a b x y : Bool} → a ≡ x → b ≡ y → a && b ≡ x && y
+both-tests e f = (λ i. e i && f i)
 
 module _ {room : Bool} {Roomy Short : Type 0} where
   pub is-short : room ≡ false → Short → ByRoom room Roomy Short

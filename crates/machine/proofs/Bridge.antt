@@ -24,16 +24,12 @@ use Rattle.held.specs.declared.start.FreshMachine.{FreshMachine}
 use Rattle.held.specs.View.{view, viewReleased, viewStepped, lent}
 use Rattle.held.specs.Answers.{viewFresh}
 use Rattle.machine.specs.Step.{StepAnswer}
-use Rattle.machine.specs.Chain.{Stand, seen, Chained, here, then, takenIn, Bridge, DemandThree}
+use Rattle.machine.specs.Chain.{Stand, seen, freshly, next, Chained, here, then, takenIn, Bridge, DemandThree}
 
 -- a release leaves the result area as long as it was
 written-long : (cells : List Float) (o : Option (order.Released Float)) → length (written cells o) ≡ length cells
 written-long cells none = refl
 written-long cells (some r) = length-set cells (r .cell) (r .number)
-
--- where an answer leads
-abbrev next : Stand → Stepped → List Float → Stand
-next s r cells = record { machine = r .machine; cells = cells; log = logged (s .log) (viewReleased (r .released)) }
 
 module _ (words : List ℕ) (operands : List Float) where
   -- only the length of the result area counts
@@ -83,9 +79,9 @@ demand-three words operands starts cells four f made ok t codes chain =
     let L = lent words operands cells in
     let start : Run Float = record { registers = starts; cells = cells } in
     let passes = fresh-passes L starts (ap (λ (x : Fresh Float). x .refusal) (sym made) ∙ ok) in
-    let begun : begin binary64 L start ≡ seen (record { machine = f .machine; cells = cells; log = [] }) =
+    let begun : begin binary64 L start ≡ seen (freshly f cells) =
     ap (λ (x : Fresh Float). record { machine = x .machine; cells = cells; log = [] }) (sym made) in
     let reached : asked binary64 L (begin binary64 L start) codes ≡ seen t =
-    ap (λ (z : State Float). asked binary64 L z codes) begun ∙ bridge words operands (record { machine = f .machine; cells = cells; log = [] }) t codes chain in
-    let many = ap (λ (z : State Float). takenOf binary64 L z codes) begun ∙ taken-so words operands (record { machine = f .machine; cells = cells; log = [] }) t codes chain in
+    ap (λ (z : State Float). asked binary64 L z codes) begun ∙ bridge words operands (freshly f cells) t codes chain in
+    let many = ap (λ (z : State Float). takenOf binary64 L z codes) begun ∙ taken-so words operands (freshly f cells) t codes chain in
     rw (reached, many) at (orderTheorem binary64 L start passes four refl codes)

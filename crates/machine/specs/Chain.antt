@@ -30,13 +30,21 @@ pub record Stand : Type 0 where
 abbrev pub seen : Stand → State Float
 seen s = record { machine = view (s .machine); cells = s .cells; log = s .log }
 
+-- where an accepted answer of `fresh` begins
+abbrev pub freshly : FreshMachine → (cells : List Float) → Stand
+freshly f cells = record { machine = f .machine; cells = cells; log = [] }
+
+-- where an answer of `step` leads
+abbrev pub next : Stand → Stepped → (cells : List Float) → Stand
+next s r cells = record { machine = r .machine; cells = cells; log = logged (s .log) (viewReleased (r .released)) }
+
 module _ (words : List ℕ) (operands : List Float) where
   -- from one stand to another by answers that meet the contract of `step`, one for each code
   pub data Chained : Stand → List ℕ → Stand → Type 0 where
     here : {s : Stand} → Chained s [] s
     then : {s t : Stand} {code : ℕ} {codes : List ℕ} (r : Stepped) (cells : List Float)
         → StepAnswer words operands (s .machine) (s .cells) code r cells
-        → Chained (record { machine = r .machine; cells = cells; log = logged (s .log) (viewReleased (r .released)) }) codes t
+        → Chained (next s r cells) codes t
         → Chained s (code ∷ codes) t
 
   -- how many of the answers are of steps taken
@@ -44,7 +52,7 @@ module _ (words : List ℕ) (operands : List Float) where
   takenIn s t codes here = 0
   takenIn s t codes (then {codes = rest} r cells a chain) =
       cond (eqb (r .refusal) 0) 1 0
-      + takenIn (record { machine = r .machine; cells = cells; log = logged (s .log) (viewReleased (r .released)) }) t rest chain
+      + takenIn (next s r cells) t rest chain
 
   -- THE BRIDGE: chained answers are the theory's `asked`, cells and releases with them
   abbrev pub Bridge : Type 0
@@ -57,7 +65,7 @@ module _ (words : List ℕ) (operands : List Float) where
       (starts cells : List Float) → length starts ≡ registerCount → (f : FreshMachine)
       → viewFresh f ≡ fresh binary64 (lent words operands cells) starts
       → f .refusal ≡ 0
-      → (t : Stand) (codes : List ℕ) (chain : Chained (record { machine = f .machine; cells = cells; log = [] }) codes t)
+      → (t : Stand) (codes : List ℕ) (chain : Chained (freshly f cells) codes t)
       → let L = lent words operands cells in
       let start : Run Float = record { registers = starts; cells = cells } in
-      Outcome binary64 L start (seen t) (takenIn (record { machine = f .machine; cells = cells; log = [] }) t codes chain)
+      Outcome binary64 L start (seen t) (takenIn (freshly f cells) t codes chain)

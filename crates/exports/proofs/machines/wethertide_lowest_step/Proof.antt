@@ -5,7 +5,7 @@ use lib.Seq.{sets}
 use Rattle.order.specs.Entries.{LowestStep}
 use Rattle.exports.specs.Entries.{lowestWords}
 use Rattle.exports.proofs.Entries.{carried}
-use Rattle.exports.proofs.Room.{not-first, not-second, both-fit, is-short, is-roomy}
+use Rattle.exports.proofs.Room.{not-first, both-tests, is-short, is-roomy}
 use Rattle.exports.proofs.machines.wethertide_lowest_step.Statement.{statement}
 use Rattle.exports.proofs.machines.wethertide_lowest_step.Tie as tie
 
@@ -13,7 +13,7 @@ returns : tie.Need-returns
 returns c = is-short (not-first _ (lt-leb _ _ (c .if1 .taken))) (refl, refl)
 
 returns-2 : tie.Need-returns-2
-returns-2 c = is-short (not-second (le-leb _ _ (c .before .if1 .left)) (lt-leb _ _ (c .if2 .taken))) (refl, refl)
+returns-2 c = is-short (both-tests (le-leb _ _ (c .before .if1 .left)) (lt-leb _ _ (c .if2 .taken))) (refl, refl)
 
 returns-3 : tie.Need-returns-3
 returns-3 c =
@@ -21,7 +21,7 @@ returns-3 c =
     let low = told .before in
     let room = low .before .before in
     let e = rw (low .before .machine-in .ensures) at (low .lowest-step .ensures) in
-    is-roomy (both-fit (le-leb _ _ (room .before .if1 .left)) (le-leb _ _ (room .if2 .left)))
+    is-roomy (both-tests (le-leb _ _ (room .before .if1 .left)) (le-leb _ _ (room .if2 .left)))
     (ap (λ (x : LowestStep). x .refusal) e, carried (λ (x : LowestStep) row. sets row 0 (lowestWords (x .code))) (c .before .before .put-words .ensures ∙ ap (sets _ 0) (told .lowest-words .ensures)) e)
 
 pub wethertide-lowest-step-spec : {M : Type 1} → statement M

@@ -7,7 +7,7 @@ use lib.Seq.{sets}
 use denote.Ref.{now}
 use Rattle.order.specs.Entries.{StepsLeft}
 use Rattle.exports.proofs.Entries.{carried}
-use Rattle.exports.proofs.Room.{not-first, not-second, both-fit, is-short, is-roomy}
+use Rattle.exports.proofs.Room.{not-first, both-tests, is-short, is-roomy}
 use Rattle.exports.proofs.machines.wethertide_steps_left.Statement.{statement}
 use Rattle.exports.proofs.machines.wethertide_steps_left.Tie as tie
 
@@ -15,14 +15,14 @@ returns : tie.Need-returns
 returns c = is-short (not-first _ (lt-leb _ _ (c .if1 .taken))) (refl, refl)
 
 returns-2 : tie.Need-returns-2
-returns-2 c = is-short (not-second (le-leb _ _ (c .before .if1 .left)) (lt-leb _ _ (c .if2 .taken))) (refl, refl)
+returns-2 c = is-short (both-tests (le-leb _ _ (c .before .if1 .left)) (lt-leb _ _ (c .if2 .taken))) (refl, refl)
 
 returns-3 : tie.Need-returns-3
 returns-3 c =
     let left = c .before .before .before .before .before in
     let room = left .before .before in
     let e = rw (left .before .machine-in .ensures) at (left .steps-left .ensures) in
-    is-roomy (both-fit (le-leb _ _ (room .before .if1 .left)) (le-leb _ _ (room .if2 .left)))
+    is-roomy (both-tests (le-leb _ _ (room .before .if1 .left)) (le-leb _ _ (room .if2 .left)))
     (ap (λ (x : StepsLeft). x .refusal) e, carried (λ (x : StepsLeft) row. sets row 0 (x .left ∷ [])) {row = now (room .before .before .before .before .before .before .before .args .answer)} (c .before .before .put-words .ensures) e)
 
 pub wethertide-steps-left-spec : {M : Type 1} → statement M
