@@ -9,11 +9,11 @@ fn main() {
         return;
     }
     let folder = Path::new(env!("CARGO_MANIFEST_DIR")).join("../target/staticlib");
-    let archive = folder.join("libexports.a");
+    let archive = folder.join("libwethertide.a");
     println!("cargo::rerun-if-changed={}", archive.display());
     if !archive.exists() {
-        println!("cargo::error=../target/staticlib/libexports.a is missing: run `rt staticlib exports` first");
+        println!("cargo::error=../target/staticlib/libwethertide.a is missing: run `rt staticlib wethertide` first");
     }
     println!("cargo::rustc-link-search=native={}", folder.display());
-    println!("cargo::rustc-link-lib=static=exports");
+    println!("cargo::rustc-link-lib=static=wethertide");
 }

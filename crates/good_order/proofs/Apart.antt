@@ -7,11 +7,11 @@ use Prim.Native.Nat.{ℕ}
 use lib.Dec.{eqb}
 use lib.ListN.{getD, List·getD-map}
 use borrow.Author.Tests.{eqb-true, eqb-false, eq-eqb, ne-eqb}
-use Rattle.order.specs.Machine.{StoreBuffer, freeStore, storeCell}
-use Rattle.order.specs.GoodOrder.{apart}
-use Rattle.held.specs.declared.parts.StoreBuffer as code
-use Rattle.held.specs.declared.parts.StoreState.the-variants.{Free}
-use Rattle.held.specs.View.{viewStore}
+use Rattle.theory_machine.specs.Machine.{StoreBuffer, freeStore, storeCell}
+use Rattle.theory_machine.specs.GoodOrder.{apart}
+use Rattle.machine_parts.specs.declared.parts.StoreBuffer as code
+use Rattle.machine_parts.specs.declared.parts.StoreState.the-variants.{Free}
+use Rattle.machine_parts.specs.View.{viewStore}
 use Rattle.good_order.specs.SlotRules.{cellsApart, storesApart}
 
 eqb-sym : (a b : ℕ) → eqb a b ≡ eqb b a

@@ -9,11 +9,11 @@ use lib.Dec.{ltb, leb, eqb}
 use lib.ListN.{getD}
 use borrow.Author.Tests.{ltb-true, leb-true}
 use Rattle.words.specs.Instructions.{isCell}
-use Rattle.order.specs.Rows.{allOf, allBelow}
-use Rattle.order.specs.Tags.{registerCount, bufferCount, stationCount, storeCount, suits}
-use Rattle.order.specs.Machine.{Kind, Operand, num, tag, Buffer, freeBuffer, waiting, full, Station, freeStation, holding, done, StoreBuffer, freeStore, live, Machine, bufferAt, stationAt, storeAt, registerAt, bufferPlace, stationPlace, storePlace, bufferCell, storeCell}
-use Rattle.order.specs.GoodOrder.{isSome, giverOf, placeBelow, cellIn, named, stationNamed, storeNamed, heldAt, stationHeld, storeHeld, kindFits, placeTests, nameTests, beforeTests, cellTests, clauses, storesApart, goodOrder}
-use Rattle.order.proofs.Rows.{bool-cases, and-i, allOf-at}
+use Rattle.theory_machine.specs.Rows.{allOf, allBelow}
+use Rattle.theory_machine.specs.Tags.{registerCount, bufferCount, stationCount, storeCount, suits}
+use Rattle.theory_machine.specs.Machine.{Kind, Operand, num, tag, Buffer, freeBuffer, waiting, full, Station, freeStation, holding, done, StoreBuffer, freeStore, live, Machine, bufferAt, stationAt, storeAt, registerAt, bufferPlace, stationPlace, storePlace, bufferCell, storeCell}
+use Rattle.theory_machine.specs.GoodOrder.{isSome, giverOf, placeBelow, cellIn, named, stationNamed, storeNamed, heldAt, stationHeld, storeHeld, kindFits, placeTests, nameTests, beforeTests, cellTests, clauses, storesApart, goodOrder}
+use Rattle.theory_machine.proofs.Rows.{bool-cases, and-i, allOf-at}
 use Rattle.good_order.specs.SlotRules.{never, giverPlace, registerGood, operandGood, bufferGood, stationGood, storeGood, buffersGood, stationsGood, registersGood, storesGood, rowTests, goodBySlots}
 use Rattle.good_order.proofs.Placed.{held-place, named-place}
 

@@ -9,8 +9,8 @@ use native.Mathlib.Numerals.{add-one}
 use native.Mathlib.Omega.{arith}
 use lib.ListN.{length, getD}
 use borrow.Author.Tests.{not-true, not-false}
-use Rattle.order.specs.Rows.{allBelow}
-use Rattle.order.proofs.Rows.{bool-cases, and-i, absurd-bool, allBelow-at}
+use Rattle.theory_machine.specs.Rows.{allBelow}
+use Rattle.theory_machine.proofs.Rows.{bool-cases, and-i, absurd-bool, allBelow-at}
 
 -- a slot of a row that is seen through f; the defaults do not count
 pub viewed : {A B : Type 0} (f : A → B) (l : List A) (i : ℕ) (a : A) (b : B) → i < length l → getD (map f l) i b ≡ f (getD l i a)

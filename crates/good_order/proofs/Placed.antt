@@ -8,17 +8,17 @@ use native.Mathlib.Omega.{arith}
 use lib.Dec.{ltb, leb, eqb}
 use lib.ListN.{length, getD, List·getD-map}
 use borrow.Author.Tests.{ltb-true, ltb-false, eqb-true, lt-ltb, le-ltb, lt-leb, ne-eqb}
-use Rattle.order.specs.Rows.{allBelow}
-use Rattle.order.specs.Tags.{firstBuffer, lastBuffer, firstStation, lastStation, bufferCount, stationCount, Slot, neither, buffer, station, slotOf}
-use Rattle.order.specs.Machine.{Buffer, freeBuffer, waiting, full, Station, freeStation, holding, done, bufferPlace, stationPlace}
-use Rattle.order.specs.GoodOrder.{nobody, isSome, before, bufferGiver, stationGiver, giverIn, giver, placeBelow}
-use Rattle.order.proofs.Rows.{bool-cases, above, allBelow-at}
-use Rattle.order.proofs.Tags.{SlotView, is-buffer, is-station, slot-view}
-use Rattle.held.specs.declared.parts.Buffer as code-buffer
-use Rattle.held.specs.declared.parts.BufferState.the-variants as buffer-state
-use Rattle.held.specs.declared.parts.Station as code-station
-use Rattle.held.specs.declared.parts.StationState.the-variants as station-state
-use Rattle.held.specs.View.{viewBuffer, viewStation}
+use Rattle.theory_machine.specs.Rows.{allBelow}
+use Rattle.theory_machine.specs.Tags.{firstBuffer, lastBuffer, firstStation, lastStation, bufferCount, stationCount, Slot, neither, buffer, station, slotOf}
+use Rattle.theory_machine.specs.Machine.{Buffer, freeBuffer, waiting, full, Station, freeStation, holding, done, bufferPlace, stationPlace}
+use Rattle.theory_machine.specs.GoodOrder.{nobody, isSome, before, bufferGiver, stationGiver, giverIn, giver, placeBelow}
+use Rattle.theory_machine.proofs.Rows.{bool-cases, above, allBelow-at}
+use Rattle.theory_machine.proofs.Tags.{SlotView, is-buffer, is-station, slot-view}
+use Rattle.machine_parts.specs.declared.parts.Buffer as code-buffer
+use Rattle.machine_parts.specs.declared.parts.BufferState.the-variants as buffer-state
+use Rattle.machine_parts.specs.declared.parts.Station as code-station
+use Rattle.machine_parts.specs.declared.parts.StationState.the-variants as station-state
+use Rattle.machine_parts.specs.View.{viewBuffer, viewStation}
 use Rattle.good_order.specs.SlotRules.{never, placeOf, tags, placeTable, placeIn}
 use Rattle.good_order.proofs.Loops.{viewed}
 

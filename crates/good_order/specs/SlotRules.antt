@@ -1,22 +1,22 @@
 -- What only private contracts cite: good order as the code goes, slot by slot, one test a slot with all its rules at once, then a row, then the
--- machine. The law is the good order of crate order, clause by clause; proofs/BySlots.antt shows that this is the same.
+-- machine. The law is the good order of crate theory_machine, clause by clause; proofs/BySlots.antt shows that this is the same.
 use mathlib.Core.Bool.{Bool, true, cond, not, _&&_, _||_}
 use mathlib.Core.List.{List, [], _∷_, map}
 use Prim.Native.Nat.{ℕ}
 use lib.Dec.{ltb, leb, eqb}
 use lib.ListN.{getD}
 use Rattle.words.specs.Instructions.{isCell}
-use Rattle.order.specs.Rows.{allOf, allBelow}
-use Rattle.order.specs.Tags.{registerCount, bufferCount, stationCount, storeCount, firstStation, lastStation, suits}
-use Rattle.order.specs.Machine.{Kind, Operand, num, tag, Buffer, freeBuffer, waiting, full, Station, freeStation, holding, done, StoreBuffer, freeStore, live, Machine, storeCell}
-use Rattle.order.specs.GoodOrder as order
-use Rattle.order.specs.GoodOrder.{nobody, fromBuffer, fromStation, giver, giverOf, apart}
+use Rattle.theory_machine.specs.Rows.{allOf, allBelow}
+use Rattle.theory_machine.specs.Tags.{registerCount, bufferCount, stationCount, storeCount, firstStation, lastStation, suits}
+use Rattle.theory_machine.specs.Machine.{Kind, Operand, num, tag, Buffer, freeBuffer, waiting, full, Station, freeStation, holding, done, StoreBuffer, freeStore, live, Machine, storeCell}
+use Rattle.theory_machine.specs.GoodOrder as theory
+use Rattle.theory_machine.specs.GoodOrder.{nobody, fromBuffer, fromStation, giver, giverOf, apart}
 
 -- nobody's place, the largest number of a usize: no machine in good order holds one as high
 abbrev pub never : ℕ
 never = 0xFFFF_FFFF_FFFF_FFFF
 
-abbrev pub placeOf : order.Giver → ℕ
+abbrev pub placeOf : theory.Giver → ℕ
 placeOf nobody = never
 placeOf (fromBuffer p) = p
 placeOf (fromStation p) = p

@@ -1,13 +1,13 @@
 // Who gives a tag: the place that the buffer or station of each tag holds.
-use held::parts::Buffer;
-use held::parts::BufferState;
-use held::parts::Station;
-use held::parts::StationState;
-use held::parts::Tag;
+use machine_parts::parts::Buffer;
+use machine_parts::parts::BufferState;
+use machine_parts::parts::Station;
+use machine_parts::parts::StationState;
+use machine_parts::parts::Tag;
 ghost use mathlib.Core.Path.{_≡_};
 ghost use mathlib.Core.List.{map};
-ghost use Rattle.order.specs.GoodOrder.{bufferGiver, stationGiver};
-ghost use Rattle.held.specs.View.{viewBuffer, viewStation};
+ghost use Rattle.theory_machine.specs.GoodOrder.{bufferGiver, stationGiver};
+ghost use Rattle.machine_parts.specs.View.{viewBuffer, viewStation};
 ghost use Rattle.good_order.specs.SlotRules.{placeOf, placeTable, placeIn};
 
 // Nobody's place: a machine in good order holds none as high, since each is below the next one.

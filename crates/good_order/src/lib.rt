@@ -3,12 +3,12 @@ mod givers;
 mod row_rules;
 mod slot_rules;
 
-use held::parts::Machine;
+use machine_parts::parts::Machine;
 ghost use mathlib.Core.Path.{_≡_};
-ghost use Rattle.order.specs.GoodOrder.{goodOrder};
-ghost use Rattle.order.specs.Steps.{inOrder};
-ghost use Rattle.order.specs.Binary64.{binary64};
-ghost use Rattle.held.specs.View.{view, lent};
+ghost use Rattle.theory_machine.specs.GoodOrder.{goodOrder};
+ghost use Rattle.theory_machine.specs.Steps.{inOrder};
+ghost use Rattle.theory_machine.specs.Binary64.{binary64};
+ghost use Rattle.machine_parts.specs.View.{view, lent};
 
 // With a list and areas of these lengths.
 pub fn in_good_order(m: Machine, list: usize, operands: usize, results: usize) -> bool

@@ -1,13 +1,13 @@
 // Good order, a row at a time.
 use crate::slot_rules;
-use held::parts::Buffer;
-use held::parts::Register;
-use held::parts::Station;
-use held::parts::StoreBuffer;
+use machine_parts::parts::Buffer;
+use machine_parts::parts::Register;
+use machine_parts::parts::Station;
+use machine_parts::parts::StoreBuffer;
 ghost use mathlib.Core.Path.{_≡_};
 ghost use mathlib.Core.List.{map};
-ghost use Rattle.order.specs.Binary64.{binary64};
-ghost use Rattle.held.specs.View.{viewRegister, viewBuffer, viewStation, viewStore};
+ghost use Rattle.theory_machine.specs.Binary64.{binary64};
+ghost use Rattle.machine_parts.specs.View.{viewRegister, viewBuffer, viewStation, viewStore};
 ghost use Rattle.good_order.specs.SlotRules.{placeIn, registersGood, buffersGood, stationsGood, storesGood, storesApart};
 
 pub(crate) fn registers_good(registers: [Register; 4], places: &[usize; 13]) -> bool

@@ -1,17 +1,17 @@
 // Good order, one test a slot: all of 01's rules for it at once.
 use crate::givers;
-use held::parts::Buffer;
-use held::parts::BufferState;
-use held::parts::Operand;
-use held::parts::Register;
-use held::parts::Station;
-use held::parts::StationState;
-use held::parts::StoreBuffer;
-use held::parts::StoreState;
-use held::parts::Tag;
+use machine_parts::parts::Buffer;
+use machine_parts::parts::BufferState;
+use machine_parts::parts::Operand;
+use machine_parts::parts::Register;
+use machine_parts::parts::Station;
+use machine_parts::parts::StationState;
+use machine_parts::parts::StoreBuffer;
+use machine_parts::parts::StoreState;
+use machine_parts::parts::Tag;
 ghost use mathlib.Core.Path.{_≡_};
 ghost use Rattle.words.specs.Instructions.{isCell};
-ghost use Rattle.held.specs.View.{viewOperand, viewRegister, viewBuffer, viewStation, viewStore};
+ghost use Rattle.machine_parts.specs.View.{viewOperand, viewRegister, viewBuffer, viewStation, viewStore};
 ghost use Rattle.good_order.specs.SlotRules.{placeIn, registerGood, operandGood, bufferGood, stationGood, storeGood, cellsApart};
 
 // A register's tag has a giver, of whatever place.

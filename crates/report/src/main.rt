@@ -1,8 +1,8 @@
 // The report program of document 01. It is given three names: list, operands and schedule. Names after the third are ignored.
 use libc::STDOUT_FILENO;
-use pages::Found;
-use pages::report::PAGE;
-use pages::report::report;
+use report_text::Found;
+use report_text::report::PAGE;
+use report_text::report::report;
 ghost use Prim.Native.Nat.{_≤_};
 ghost use lib.ListN.{length};
 

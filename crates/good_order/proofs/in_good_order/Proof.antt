@@ -3,8 +3,8 @@ use Prim.Native.Nat.{ℕ, _≤_}
 use native.Mathlib.Omega.{arith}
 use borrow.Author.Tests.{le-leb, lt-leb, not-true, not-false}
 use borrow.Author.Needs.{needs}
-use Rattle.order.specs.Binary64.{binary64}
-use Rattle.held.specs.View.{view}
+use Rattle.theory_machine.specs.Binary64.{binary64}
+use Rattle.machine_parts.specs.View.{view}
 use Rattle.good_order.specs.SlotRules.{never, placeIn, giverPlace, stationsGood, registersGood, storesGood}
 use Rattle.good_order.proofs.Placed.{same-places}
 use Rattle.good_order.proofs.BySlots.{by-slots, row-fails, and-true}

@@ -1,6 +1,6 @@
 use borrow.Author.Tests.{lt-ltb, le-ltb}
 use borrow.Author.Needs.{needs}
-use Rattle.order.specs.Tags.{lastStation}
+use Rattle.theory_machine.specs.Tags.{lastStation}
 use Rattle.good_order.proofs.givers.giver_place.Statement.{statement}
 use Rattle.good_order.proofs.givers.giver_place.Tie as tie
 

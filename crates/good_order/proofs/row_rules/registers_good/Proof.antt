@@ -2,11 +2,11 @@ use Prim.Native.Nat.{_-_}
 use native.Mathlib.Omega.{arith}
 use lib.Ieee.{nan}
 use borrow.Author.Needs.{needs}
-use Rattle.order.specs.Machine.{num}
-use Rattle.order.specs.Binary64.{binary64}
+use Rattle.theory_machine.specs.Machine.{num}
+use Rattle.theory_machine.specs.Binary64.{binary64}
 use Rattle.good_order.proofs.Loops.{Passed, passed-none, passed-more, passed-stop, passed-all}
-use Rattle.held.specs.declared.parts.Operand.the-variants.{Number}
-use Rattle.held.specs.View.{viewRegister}
+use Rattle.machine_parts.specs.declared.parts.Operand.the-variants.{Number}
+use Rattle.machine_parts.specs.View.{viewRegister}
 use Rattle.good_order.specs.SlotRules.{placeIn, registerGood}
 use Rattle.good_order.proofs.row_rules.registers_good.Statement.{statement}
 use Rattle.good_order.proofs.row_rules.registers_good.Tie as tie

@@ -1,6 +1,6 @@
 use borrow.Author.Tests.{lt-ltb, le-ltb}
 use borrow.Author.Needs.{needs}
-use Rattle.order.specs.Tags.{firstStation}
+use Rattle.theory_machine.specs.Tags.{firstStation}
 use Rattle.good_order.proofs.slot_rules.operand_good.Statement.{statement}
 use Rattle.good_order.proofs.slot_rules.operand_good.Tie as tie
 

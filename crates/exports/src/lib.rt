@@ -1,5 +1,0 @@
-// The entries for programs in C or Rust: a static library. Its functions carry numbers and rows of numbers alone, so a machine goes as a row of
-// 77 words (crate images).
-mod lists;
-mod machines;
-mod run;

@@ -1,0 +1,71 @@
+// A fresh machine (01, "Refusal numbers").
+use crate::parts::Buffer;
+use crate::parts::BufferState;
+use crate::parts::Machine;
+use crate::parts::Operand;
+use crate::parts::Register;
+use crate::parts::Station;
+use crate::parts::StationState;
+use crate::parts::StoreBuffer;
+use crate::parts::StoreState;
+use words::refusal;
+ghost use mathlib.Core.Path.{_≡_};
+ghost use Rattle.theory_machine.specs.Entries.{emptyMachine, fresh};
+ghost use Rattle.theory_machine.specs.Binary64.{binary64};
+ghost use Rattle.machine_parts.specs.View.{view, lent};
+ghost use Rattle.machine_parts.specs.Answers.{viewFresh};
+
+// The answer of a start: the machine, and a refusal number of 01, 0 for accepted.
+pub struct FreshMachine {
+    pub machine: Machine,
+    pub refusal: u32,
+}
+
+// At place 0 with nothing live.
+fn empty_machine(numbers: [f64; 4]) -> Machine
+    ensures { λ r. ⌜ view r ≡ emptyMachine numbers ⌝ }
+{
+    Machine {
+        next: 0,
+        registers: [
+            Register {
+                operand: Operand::Number(numbers[0]),
+            },
+            Register {
+                operand: Operand::Number(numbers[1]),
+            },
+            Register {
+                operand: Operand::Number(numbers[2]),
+            },
+            Register {
+                operand: Operand::Number(numbers[3]),
+            },
+        ],
+        buffers: [Buffer {
+            state: BufferState::Free,
+        }; 6],
+        stations: [Station {
+            state: StationState::Free,
+        }; 5],
+        stores: [StoreBuffer {
+            state: StoreState::Free,
+        }; 3],
+    }
+}
+
+// 01: refused, a machine at place 0 with nothing live and all registers +0.
+pub fn fresh(words: &[u32], operands: &[f64], results: &[f64], starts: [f64; 4]) -> FreshMachine
+    ensures { λ r. ⌜ viewFresh r ≡ fresh binary64 (lent (now (words .entry)) (now (operands .entry)) (now (results .entry))) starts ⌝ }
+{
+    let refused = words::check_list_against(words, operands.len(), results.len()).refusal;
+    if refused != 0 {
+        return FreshMachine {
+            machine: empty_machine([0.0; 4]),
+            refusal: refused,
+        };
+    }
+    FreshMachine {
+        machine: empty_machine(starts),
+        refusal: refusal::ACCEPTED,
+    }
+}

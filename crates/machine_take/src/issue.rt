@@ -1,0 +1,85 @@
+// Issue: which slots an instruction takes, "always using the lowest-numbered free one".
+use crate::change::Change;
+use crate::change::not_now;
+use machine_free::Found;
+use machine_free::cell_live;
+use machine_free::lowest_buffer;
+use machine_free::lowest_station;
+use machine_free::lowest_store;
+use machine_parts::parts::Buffer;
+use machine_parts::parts::Register;
+use machine_parts::parts::Station;
+use machine_parts::parts::StoreBuffer;
+use words::Form;
+use words::refusal;
+ghost use mathlib.Core.Path.{_≡_};
+ghost use Rattle.machine_take.specs.Inside.{lentTo};
+ghost use Rattle.machine_take.specs.Changes.{asked, RegistersIn, Issues, IssuesNext};
+
+// By the word's form, R1's index and the operand.
+fn slots_for(
+    form: Form,
+    r: usize,
+    operand: u32,
+    bs: [Buffer; 6],
+    ss: [Station; 5],
+    ts: [StoreBuffer; 3],
+) -> Change
+    requires { ⌜ RegistersIn (asked form r operand) ⌝ }
+    ensures { λ c. ⌜ Issues bs ss ts (asked form r operand) c ⌝ }
+{
+    let cell = operand as usize;
+    match form {
+        Form::Unknown => Change::Refused(refusal::OPERATION),
+        Form::LD => match lowest_buffer(bs) {
+            Found::Nothing => not_now(),
+            Found::At(b) => Change::Loads(r, cell, b),
+        },
+        Form::LDR => Change::Copies(r, Register::index_of(operand)),
+        Form::CellArithmetic(o) => match lowest_buffer(bs) {
+            Found::Nothing => not_now(),
+            Found::At(b) => match lowest_station(ss, o) {
+                Found::Nothing => not_now(),
+                Found::At(s) => Change::TakesCell(o, r, cell, b, s),
+            },
+        },
+        Form::RegisterArithmetic(o) => match lowest_station(ss, o) {
+            Found::Nothing => not_now(),
+            Found::At(s) => Change::TakesRegister(o, r, Register::index_of(operand), s),
+        },
+        Form::STD => {
+            if cell_live(ts, cell) {
+                return not_now();
+            }
+            match lowest_store(ts) {
+                Found::Nothing => not_now(),
+                Found::At(t) => Change::Stores(r, cell, t),
+            }
+        }
+    }
+}
+
+// "for an issue at the list's end 7, else 2, 3, 4 for that word, then 7"
+pub(crate) fn issue(
+    place: usize,
+    bs: [Buffer; 6],
+    ss: [Station; 5],
+    ts: [StoreBuffer; 3],
+    words: &[u32],
+    operands: &[f64],
+    results: usize,
+) -> Change
+    ensures { λ c. ⌜ IssuesNext place bs ss ts (lentTo (now (words .entry)) (now (operands .entry)) results) c ⌝ }
+{
+    if words.len() <= place {
+        return not_now();
+    }
+    let word = words[place];
+    let bad = words::word_refusal(word, operands.len(), results);
+    if bad != refusal::ACCEPTED {
+        return Change::Refused(bad);
+    }
+    let r = Register::index_of(words::r1_of(word));
+    let form = words::form_of(words::operation_of(word));
+    slots_for(form, r, words::operand_of(word), bs, ss, ts)
+}

@@ -1,0 +1,16 @@
+use borrow.Author.Needs.{needs}
+use Rattle.machine_words.proofs.image.held_at.Statement.{statement}
+use Rattle.machine_words.proofs.image.held_at.Tie as tie
+
+returns : tie.Need-returns
+returns c = rw (c .number-of .ensures, c .before .word-at2 .ensures, c .before .before .word-at .ensures)
+
+pub held-at-spec : {M : Type 1} → statement M
+held-at-spec =
+    tie.close
+    (tie.spec
+    (λ c κs. search needs)
+    (λ c. search needs)
+    (λ c κs. search needs)
+    (λ c κs. search needs)
+    returns)

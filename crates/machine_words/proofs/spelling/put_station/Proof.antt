@@ -1,0 +1,16 @@
+use borrow.Author.Needs.{needs}
+use Rattle.machine_words.proofs.spelling.put_station.Statement.{statement}
+use Rattle.machine_words.proofs.spelling.put_station.Tie as tie
+
+returns : tie.Need-returns
+returns c = rw (c .before .before .put-words .ensures, c .before .before .before .before .before .station-words .ensures)
+
+pub put-station-spec : {M : Type 1} → statement M
+put-station-spec =
+    tie.close
+    (tie.spec
+    (λ c κs. search needs)
+    (λ c. search needs)
+    (λ c κs. search needs)
+    (λ c. search needs)
+    returns)

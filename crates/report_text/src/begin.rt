@@ -1,0 +1,137 @@
+// What a report begins with: the list and the operands read, and the first fault of all (01, "The report program").
+use crate::Found;
+use crate::faults::FILE_LIMIT;
+use crate::faults::operands_fault;
+use crate::faults::schedule_fault;
+use crate::operands::read_operands;
+use list_file::reader::read;
+use theory_report::Fault;
+use words::CELL_LIMIT;
+use words::check_list_against;
+use words::refusal;
+ghost use mathlib.Core.Path.{_≡_};
+ghost use lib.ListN.{length};
+ghost use Rattle.words.specs.Instructions.{cellLimit};
+ghost use Rattle.words.specs.Check.{listCheck};
+ghost use Rattle.theory_report.specs.Report.{isFault, verdictFault};
+ghost use Rattle.report_text.specs.Files.{ListIs, Begins};
+
+// What a stop line names.
+pub enum Name {
+    List,
+    Operands,
+    Schedule,
+    Areas,
+}
+
+// The list as read: its fault, and how many words.
+pub struct ListRead {
+    pub fault: Fault,
+    pub count: usize,
+}
+
+// Where a report begins: the first fault with its name, if there is one, and how many words and operand cells were read.
+pub struct Begun {
+    pub name: Name,
+    pub fault: Fault,
+    pub words: usize,
+    pub operands: usize,
+}
+
+pub(crate) fn stops(fault: Fault) -> bool
+    ensures { λ r. ⌜ r ≡ isFault fault ⌝ }
+{
+    match fault {
+        Fault::Nothing => false,
+        Fault::Missing => true,
+        Fault::Refused(_, _) => true,
+    }
+}
+
+// Missing, then 11, then what the reader says.
+fn read_list(bytes: &[u8], found: bool, words: &mut [u32]) -> ListRead
+    requires { ⌜ length (now words) ≡ 4096 ⌝ }
+    ensures { λ r. ⌜ ListIs found (now (bytes .entry)) (now (words .exit)) (r .fault) (r .count) ⌝ }
+{
+    if !found {
+        return ListRead {
+            fault: Fault::Missing,
+            count: 0,
+        };
+    }
+    if FILE_LIMIT < bytes.len() {
+        return ListRead {
+            fault: Fault::Refused(refusal::ROOM, FILE_LIMIT),
+            count: 0,
+        };
+    }
+    let list = read(bytes, words);
+    if list.refusal != 0 {
+        return ListRead {
+            fault: Fault::Refused(list.refusal, list.place),
+            count: 0,
+        };
+    }
+    ListRead {
+        fault: Fault::Nothing,
+        count: list.count,
+    }
+}
+
+// The list against so many operand cells and 256 result cells.
+fn areas_fault(words: &[u32], operands: usize) -> Fault
+    ensures { λ r. ⌜ r ≡ verdictFault (listCheck operands cellLimit (now (words .entry))) ⌝ }
+{
+    let verdict = check_list_against(words, operands, CELL_LIMIT);
+    if verdict.refusal == 0 {
+        return Fault::Nothing;
+    }
+    Fault::Refused(verdict.refusal, verdict.place)
+}
+
+fn stopped(name: Name, fault: Fault) -> Begun
+    ensures { λ r. ⌜ r ≡ record { name = name; fault = fault; words = 0; operands = 0 } ⌝ }
+{
+    Begun {
+        name,
+        fault,
+        words: 0,
+        operands: 0,
+    }
+}
+
+// The files in 01's order, then the list against its areas.
+pub(crate) fn begin(
+    named: Found,
+    list: &[u8],
+    operands: &[u8],
+    schedule: &[u8],
+    words: &mut [u32],
+    cells: &mut [f64],
+) -> Begun
+    requires { ⌜ (length (now words) ≡ 4096) × (length (now cells) ≡ 256) ⌝ }
+    ensures { λ r. ⌜ Begins named (now (list .entry)) (now (operands .entry)) (now (schedule .entry)) (now (words .exit)) (now (cells .exit)) r ⌝ }
+{
+    let found = read_list(list, named.list, words);
+    let fault = found.fault;
+    if stops(fault) {
+        return stopped(Name::List, fault);
+    }
+    let second = operands_fault(operands, named.operands);
+    if stops(second) {
+        return stopped(Name::Operands, second);
+    }
+    let third = schedule_fault(schedule, named.schedule);
+    if stops(third) {
+        return stopped(Name::Schedule, third);
+    }
+    let numbers = read_operands(operands, cells);
+    let count = found.count;
+    let last = areas_fault(&words[..count], numbers);
+    Begun {
+        name: Name::Areas,
+        fault: last,
+        words: count,
+        operands: numbers,
+    }
+}

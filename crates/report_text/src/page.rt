@@ -1,0 +1,148 @@
+// The lines of a report, each stored at a place of the lent bytes.
+use crate::put::put_decimal;
+use crate::put::put_pattern;
+use crate::put::put_text;
+use machine_parts::parts::Operand;
+use machine_parts::parts::Record;
+use machine_parts::parts::Register;
+ghost use mathlib.Core.List.{map};
+ghost use Prim.Native.Nat.{_+_, _*_, _≤_};
+ghost use lib.ListN.{length, take};
+ghost use Rattle.machine_parts.specs.View.{viewOperand, viewRegister, viewRecord};
+ghost use Rattle.theory_report.specs.Report.{answerText, countLine, refusalLine, headText, pageText, operandText, registerLine, registerLines, recordLine, recordLines};
+ghost use Rattle.theory_machine.specs.Machine.{tag};
+ghost use Rattle.report_text.specs.Put.{PutIn, labelLimit, answerLimit, countLimit, refusalLimit, tagLimit, registerLimit, registersLimit, headLimit, recordLimit, pageRoom};
+
+// A refusal number and its place, to the line's end.
+pub(crate) fn put_answer(out: &mut [u8], at: usize, number: u32, place: usize) -> usize
+    requires { ⌜ at + answerLimit ≤ length (now out) ⌝ }
+    ensures { λ r. ⌜ PutIn answerLimit (now (out .entry)) (now (out .exit)) at r (answerText number place) ⌝ }
+{
+    let second = put_decimal(out, at, number as usize);
+    let third = put_text(out, second, b" at ");
+    let fourth = put_decimal(out, third, place);
+    put_text(out, fourth, b"\n")
+}
+
+// A label and a number.
+fn put_count(out: &mut [u8], at: usize, label: &[u8], n: usize) -> usize
+    requires { ⌜ (length (now label) ≤ labelLimit) × (at + countLimit ≤ length (now out)) ⌝ }
+    ensures { λ r. ⌜ PutIn countLimit (now (out .entry)) (now (out .exit)) at r (countLine (now (label .entry)) n) ⌝ }
+{
+    let second = put_text(out, at, label);
+    let third = put_decimal(out, second, n);
+    put_text(out, third, b"\n")
+}
+
+fn put_refusal(out: &mut [u8], at: usize, number: u32, place: usize) -> usize
+    requires { ⌜ at + refusalLimit ≤ length (now out) ⌝ }
+    ensures { λ r. ⌜ PutIn refusalLimit (now (out .entry)) (now (out .exit)) at r (refusalLine number place) ⌝ }
+{
+    let second = put_text(out, at, b"refusal ");
+    put_answer(out, second, number, place)
+}
+
+fn put_tag(out: &mut [u8], at: usize, number: u8) -> usize
+    requires { ⌜ at + tagLimit ≤ length (now out) ⌝ }
+    ensures { λ r. ⌜ PutIn tagLimit (now (out .entry)) (now (out .exit)) at r (operandText (tag number)) ⌝ }
+{
+    let second = put_text(out, at, b"tag ");
+    put_decimal(out, second, number as usize)
+}
+
+// A number's pattern, or the tag that is waited for.
+fn put_operand(out: &mut [u8], at: usize, operand: Operand) -> usize
+    requires { ⌜ at + tagLimit ≤ length (now out) ⌝ }
+    ensures { λ r. ⌜ PutIn tagLimit (now (out .entry)) (now (out .exit)) at r (operandText (viewOperand operand)) ⌝ }
+{
+    match operand {
+        Operand::Number(number) => put_pattern(out, at, number),
+        Operand::Waits(awaited) => put_tag(out, at, awaited.0),
+    }
+}
+
+fn put_register(out: &mut [u8], at: usize, number: usize, register: Register) -> usize
+    requires { ⌜ at + registerLimit ≤ length (now out) ⌝ }
+    ensures { λ r. ⌜ PutIn registerLimit (now (out .entry)) (now (out .exit)) at r (registerLine number (viewRegister register)) ⌝ }
+{
+    let operand = register.operand;
+    let second = put_text(out, at, b"F");
+    let third = put_decimal(out, second, number);
+    let fourth = put_text(out, third, b" ");
+    let fifth = put_operand(out, fourth, operand);
+    put_text(out, fifth, b"\n")
+}
+
+fn put_registers(out: &mut [u8], at: usize, registers: [Register; 4]) -> usize
+    requires { ⌜ at + registersLimit ≤ length (now out) ⌝ }
+    ensures { λ r. ⌜ PutIn registersLimit (now (out .entry)) (now (out .exit)) at r (registerLines 0 (map viewRegister registers)) ⌝ }
+{
+    let second = put_register(out, at, 0, registers[0]);
+    let third = put_register(out, second, 2, registers[1]);
+    let fourth = put_register(out, third, 4, registers[2]);
+    put_register(out, fourth, 6, registers[3])
+}
+
+fn put_record(out: &mut [u8], at: usize, released: Record) -> usize
+    requires { ⌜ at + recordLimit ≤ length (now out) ⌝ }
+    ensures { λ r. ⌜ PutIn recordLimit (now (out .entry)) (now (out .exit)) at r (recordLine (viewRecord released)) ⌝ }
+{
+    let second = put_decimal(out, at, released.place);
+    let third = put_text(out, second, b" ");
+    let fourth = put_decimal(out, third, released.cell);
+    let fifth = put_text(out, fourth, b" ");
+    let sixth = put_pattern(out, fifth, released.number);
+    put_text(out, sixth, b"\n")
+}
+
+// The first records of a log.
+fn put_records(out: &mut [u8], at: usize, count: usize, log: [Record; 2048]) -> usize
+    requires { ⌜ (count ≤ 2048) × (at + count * recordLimit ≤ length (now out)) ⌝ }
+    ensures { λ r. ⌜ PutIn (count * recordLimit) (now (out .entry)) (now (out .exit)) at r (recordLines (map viewRecord (take count log))) ⌝ }
+{
+    let mut end = at;
+    let mut i = 0;
+    while i < count {
+        end = put_record(out, end, log[i]);
+        i += 1;
+    }
+    end
+}
+
+// The eight lines before the records.
+fn put_head(
+    out: &mut [u8],
+    steps: usize,
+    refusal: u32,
+    place: usize,
+    left: usize,
+    registers: [Register; 4],
+    records: usize,
+) -> usize
+    requires { ⌜ headLimit ≤ length (now out) ⌝ }
+    ensures { λ r. ⌜ PutIn headLimit (now (out .entry)) (now (out .exit)) 0 r (headText steps refusal place left (map viewRegister registers) records) ⌝ }
+{
+    let second = put_count(out, 0, b"steps ", steps);
+    let third = put_refusal(out, second, refusal, place);
+    let fourth = put_count(out, third, b"left ", left);
+    let fifth = put_registers(out, fourth, registers);
+    put_count(out, fifth, b"log ", records)
+}
+
+// The report of a run that was made.
+pub(crate) fn put_page(
+    out: &mut [u8],
+    steps: usize,
+    refusal: u32,
+    place: usize,
+    left: usize,
+    registers: [Register; 4],
+    records: usize,
+    log: [Record; 2048],
+) -> usize
+    requires { ⌜ (records ≤ 2048) × (pageRoom ≤ length (now out)) ⌝ }
+    ensures { λ r. ⌜ PutIn pageRoom (now (out .entry)) (now (out .exit)) 0 r (pageText steps refusal place left (map viewRegister registers) (map viewRecord (take records log))) ⌝ }
+{
+    let second = put_head(out, steps, refusal, place, left, registers, records);
+    put_records(out, second, records, log)
+}

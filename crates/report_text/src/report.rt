@@ -1,0 +1,30 @@
+// The report program's text (01, "The report program"), from the bytes of its three files.
+use crate::Found;
+use crate::begin::begin;
+use crate::begin::stops;
+use crate::ran::ran;
+use crate::stop::put_stop;
+ghost use Rattle.report_text.specs.Put.{Printed};
+ghost use Rattle.report_text.specs.Files.{textOf};
+
+// Bytes that are enough for every report.
+pub const PAGE: usize = 131072;
+
+pub fn report(named: Found, list: &[u8], operands: &[u8], schedule: &[u8], out: &mut [u8]) -> usize
+    ensures { λ r. ⌜ Printed (now (out .entry)) (now (out .exit)) r (textOf named (now (list .entry)) (now (operands .entry)) (now (schedule .entry))) ⌝ }
+{
+    if out.len() < PAGE {
+        return 0;
+    }
+    let mut words = [0u32; 4096];
+    let mut cells = [0.0f64; 256];
+    let begun = begin(named, list, operands, schedule, &mut words, &mut cells);
+    let name = begun.name;
+    let fault = begun.fault;
+    if stops(fault) {
+        return put_stop(out, name, fault);
+    }
+    let count = begun.words;
+    let numbers = begun.operands;
+    ran(out, &words[..count], &cells[..numbers], schedule)
+}

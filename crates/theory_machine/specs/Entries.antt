@@ -1,0 +1,77 @@
+-- The entries that check for themselves (document 01, "Refusal numbers"): fresh machine, one-at-a-time run, steps left, lowest step.
+use mathlib.Core.Bool.{cond, not}
+use mathlib.Core.Option.{Option, none}
+use mathlib.Core.List.{List, map}
+use Prim.Native.Nat.{ℕ}
+use lib.Dec.{eqb}
+use lib.ListN.{length, replicate}
+use Rattle.words.specs.Check.{listCheck}
+use Rattle.theory_machine.specs.Rows.{first}
+use Rattle.theory_machine.specs.Tags.{registerCount, bufferCount, stationCount, storeCount, codeLimit}
+use Rattle.theory_machine.specs.Machine.{Kind, Lent, num, freeBuffer, freeStation, freeStore, Machine}
+use Rattle.theory_machine.specs.Issue.{isTaken}
+use Rattle.theory_machine.specs.Steps.{perform, inOrder}
+use Rattle.theory_machine.specs.Count.{countLeft}
+use Rattle.theory_machine.specs.OneAtATime.{Run, runTo}
+
+pub record Fresh (A : Type 0) : Type 0 where
+  pub refusal : ℕ
+  pub machine : Machine A
+
+pub record Ran (A : Type 0) : Type 0 where
+  pub refusal : ℕ
+  pub run : Run A
+
+pub record StepsLeft : Type 0 where
+  pub refusal : ℕ
+  pub left : ℕ
+
+pub record LowestStep : Type 0 where
+  pub refusal : ℕ
+  pub code : Option ℕ
+
+-- at place 0 with nothing live
+abbrev pub emptyMachine : {A : Type 0} → List A → Machine A
+emptyMachine numbers = record {
+  next = 0;
+  registers = map num numbers;
+  buffers = replicate bufferCount freeBuffer;
+  stations = replicate stationCount freeStation;
+  stores = replicate storeCount freeStore;
+}
+
+module _ (K : Kind) (L : Lent (K .Num)) where
+  -- the list against its areas
+  abbrev pub listRefusal : ℕ
+  listRefusal = listCheck (length (L .operands)) (L .results) (L .words) .refusal
+
+  -- the smallest code that a machine in good order permits
+  unfoldable pub lowestPermitted : Machine (K .Num) → Option ℕ
+  lowestPermitted m = first (λ code. isTaken (perform K L m code)) 0 codeLimit
+
+  -- "A fresh machine .. need[s] a list that passes against its areas; .. takes four start numbers. Refused, .. a machine at place 0 with
+  -- nothing live and all registers +0"
+  unfoldable pub fresh : (starts : List (K .Num)) → Fresh (K .Num)
+  fresh starts =
+      cond (not (eqb listRefusal 0)) (record { refusal = listRefusal; machine = emptyMachine (replicate registerCount (K .nought)) })
+      (record { refusal = 0; machine = emptyMachine starts })
+
+  -- "the one-at-a-time run need[s] a list that passes against its areas; .. Refused, .. gives the start numbers back"
+  unfoldable pub oneAtATime : (start : Run (K .Num)) → Ran (K .Num)
+  oneAtATime start =
+      cond (not (eqb listRefusal 0)) (record { refusal = listRefusal; run = start })
+      (record { refusal = 0; run = runTo K L start (length (L .words)) })
+
+  -- "Steps left gives 0 when refused"; "Steps left, and the lowest permitted step, check the list and then 6."
+  unfoldable pub stepsLeft : Machine (K .Num) → StepsLeft
+  stepsLeft m =
+      cond (not (eqb listRefusal 0)) (record { refusal = listRefusal; left = 0 })
+      (cond (not (inOrder K L m)) (record { refusal = 6; left = 0 })
+      (record { refusal = 0; left = countLeft (L .words) m }))
+
+  -- "the lowest step none": "answers the smallest permitted code, or none exactly when drained"
+  unfoldable pub lowestStep : Machine (K .Num) → LowestStep
+  lowestStep m =
+      cond (not (eqb listRefusal 0)) (record { refusal = listRefusal; code = none })
+      (cond (not (inOrder K L m)) (record { refusal = 6; code = none })
+      (record { refusal = 0; code = lowestPermitted m }))
