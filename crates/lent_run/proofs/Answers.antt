@@ -1,4 +1,4 @@
--- A run from release to release (specs/Ran.antt) shows the theory's run (specs/Run.antt).
+-- A run from release to release (specs.ByReleases.antt) shows the theory's run (specs/Run.antt).
 use mathlib.Core.Path.{_≡_, refl, sym, ap, _∙_, subst}
 use mathlib.Core.Bool.{Bool, true, false, cond, not}
 use mathlib.Core.Option.{Option, none, some}
@@ -14,13 +14,13 @@ use lib.Seq.{drop-cons, set-append-seam}
 use borrow.Author.Tests.{eqb-true, le-ltb}
 use Rattle.words.specs.Instructions.{listLimit}
 use Rattle.theory_machine.specs.Machine as theory
-use Rattle.theory_machine.specs.Machine.{Lent, Shape, Released}
+use Rattle.theory_machine.specs.Machine.{Lent, Shape}
 use Rattle.theory_machine.specs.Binary64.{binary64}
 use Rattle.theory_machine.specs.Steps.{inOrder}
 use Rattle.theory_machine.specs.Entries.{listRefusal}
 use Rattle.theory_machine.specs.Asked.{written}
 use Rattle.theory_machine.proofs.Words.{passes}
-use Rattle.theory_run.specs.Run.{Ran, run, notBegun, unlogged, loggedOver}
+use Rattle.theory_run.specs.Run.{ScheduleRun, run, notBegun, unlogged, loggedOver}
 use Rattle.machine_parts.specs.declared.parts.Machine.{Machine}
 use Rattle.machine_parts.specs.declared.parts.Record.{Record}
 use Rattle.machine_parts.specs.View.{view, viewRecord, lent}
@@ -29,9 +29,9 @@ use Rattle.machine_parts.proofs.Exact.{forth}
 use Rattle.machine_steps.specs.declared.advance.Progress.{Progress}
 use Rattle.machine_steps.specs.declared.advance.Stop.{Stop}
 use Rattle.machine_take.specs.Taking.{Taken, takeFrom}
-use Rattle.machine_steps.specs.Advance.{beginning, stays, stopped, takenOn, goes, advanced, cellsAfter}
+use Rattle.machine_steps.specs.Advance.{beginning, stays, stopOf, takenOn, goes, advanced, cellsAfter}
 use Rattle.machine_steps.proofs.Segments.{stateAt, onFrom, SegmentBy, segment}
-use Rattle.lent_run.specs.Ran.{Final, pick, runs, ran}
+use Rattle.lent_run.specs.ByReleases.{Final, pick, runs, runByReleases}
 use Rattle.lent_run.specs.Run.{Shows, RunAnswer}
 
 -- a record stored in a lent log after those of the run
@@ -40,10 +40,10 @@ map-set f [] i a = refl
 map-set f (x ∷ l) zero a = refl
 map-set f (x ∷ l) (suc i) a = ap (λ (m : List _). f x ∷ m) (map-set f l i a)
 
-logged-more : (records log : List (Released Float)) (r : Released Float) → length records < length log
+logged-more : (records log : List (theory.Record Float)) (r : theory.Record Float) → length records < length log
     → set (loggedOver records log) (length records) r ≡ loggedOver (records ++ r ∷ []) log
 logged-more records log r h =
-    ap (λ (l : List (Released Float)). set (records ++ l) (length records) r) (drop-cons log (length records) r h)
+    ap (λ (l : List (theory.Record Float)). set (records ++ l) (length records) r) (drop-cons log (length records) r h)
     ∙ set-append-seam records (getD log (length records) r) (drop (suc (length records)) log) r
     ∙ (rw (append-assoc, length-append, add-one) refl)
 
@@ -55,7 +55,7 @@ module _ (words : List ℕ) (operands : List Float) (results : ℕ) (schedule : 
   room = length log₀
 
   -- where a run stands: what has been released, and turns enough for what is left
-  pub record Stands (turns : ℕ) (p : Progress) (cells : List Float) (log : List Record) (released : List (Released Float)) : Type 0 where
+  pub record Stands (turns : ℕ) (p : Progress) (cells : List Float) (log : List Record) (released : List (theory.Record Float)) : Type 0 where
     pub going : p .going ≡ true
     pub enough : length schedule ≤ p .place + turns
     pub few : p .steps ≤ p .place
@@ -65,30 +65,30 @@ module _ (words : List ℕ) (operands : List Float) (results : ℕ) (schedule : 
     pub area : length cells ≡ results
     pub so-far : map viewRecord log ≡ loggedOver released (map viewRecord log₀)
 
-  abbrev FinalShows : Ran Float → Final → Type 0
+  abbrev FinalShows : ScheduleRun Float → Final → Type 0
   FinalShows w f = Shows w log₀ (f .run) (f .cells) (f .log)
 
-  abbrev theirs : (turns : ℕ) → Progress → List Float → List (Released Float) → Ran Float
+  abbrev theirs : (turns : ℕ) → Progress → List Float → List (theory.Record Float) → ScheduleRun Float
   theirs turns p cells released = onFrom L room schedule turns (stateAt (view (p .machine)) cells released) (p .steps) (p .place)
 
   -- one stop: what the codes taken come to
-  module _ (k turns : ℕ) (p : Progress) (cells : List Float) (log : List Record) (released : List (Released Float)) (s : Stands turns p cells log released) where
-    abbrev ofStop : Taken → Option (Released Float) → Final
+  module _ (k turns : ℕ) (p : Progress) (cells : List Float) (log : List Record) (released : List (theory.Record Float)) (s : Stands turns p cells log released) where
+    abbrev ofStop : Taken → Option (theory.Record Float) → Final
     ofStop t o =
-        let x : Stop = stopped p t o in
+        let x : Stop = stopOf p t o in
         pick (x .released) (runs k (x .progress) words operands (written cells o) schedule room (set log (x .index) (x .made))) (record { run = x .progress; cells = written cells o; log = log })
 
     -- the same, if the run goes on at all
     abbrev ofGoes : Bool → Taken → Final
     ofGoes b t =
-        let x : Stop = cond b (stopped p t (t .released)) (stays p) in
+        let x : Stop = cond b (stopOf p t (t .released)) (stays p) in
         let cells′ : List Float = cond b (written cells (t .released)) cells in
         pick (x .released) (runs k (x .progress) words operands cells′ schedule room (set log (x .index) (x .made))) (record { run = x .progress; cells = cells′; log = log })
 
-    module _ (later : (turns : ℕ) → turns < k → (p : Progress) (cells : List Float) (log : List Record) (released : List (Released Float)) → Stands turns p cells log released
+    module _ (later : (turns : ℕ) → turns < k → (p : Progress) (cells : List Float) (log : List Record) (released : List (theory.Record Float)) → Stands turns p cells log released
         → FinalShows (theirs turns p cells released) (runs k p words operands cells schedule room log)) where
-      at-stop : (w : Ran Float) (t : Taken) (o : Option (Released Float)) → SegmentBy L room schedule k cells released o t w → FinalShows w (ofStop t o)
-      at-stop w t none e = subst (λ (w : Ran Float). FinalShows w (ofStop t none)) (sym e) (record {
+      at-stop : (w : ScheduleRun Float) (t : Taken) (o : Option (theory.Record Float)) → SegmentBy L room schedule k cells released o t w → FinalShows w (ofStop t o)
+      at-stop w t none e = subst (λ (w : ScheduleRun Float). FinalShows w (ofStop t none)) (sym e) (record {
         machine = forth (t .machine);
         steps = refl;
         place = refl;
@@ -99,7 +99,7 @@ module _ (words : List ℕ) (operands : List Float) (results : ℕ) (schedule : 
         log = s .so-far;
       })
       at-stop w t (some r) e =
-          let q : Progress = stopped p t (some r) .progress in
+          let q : Progress = stopOf p t (some r) .progress in
           let cells′ : List Float = written cells (some r) in
           let log′ : List Record = set log (p .records) (recordOf r) in
           let f = sym (forth (t .machine)) in
@@ -117,7 +117,7 @@ module _ (words : List ℕ) (operands : List Float) (results : ℕ) (schedule : 
           } in
           let same : w ≡ theirs (e .turns) q cells′ (released ++ r ∷ []) =
           e .same ∙ ap (λ (m : theory.Machine Float). onFrom L room schedule (e .turns) (stateAt m cells′ (released ++ r ∷ [])) (t .steps) (t .place)) f in
-          subst (λ (w : Ran Float). FinalShows w (ofStop t (some r))) (sym same) (later (e .turns) (e .fewer) q cells′ log′ (released ++ r ∷ []) there)
+          subst (λ (w : ScheduleRun Float). FinalShows w (ofStop t (some r))) (sym same) (later (e .turns) (e .fewer) q cells′ log′ (released ++ r ∷ []) there)
 
       one-stop : length words ≤ listLimit → turns ≤ k → FinalShows (theirs turns p cells released) (runs (suc k) p words operands cells schedule room log)
       unfolding runs advanced cellsAfter
@@ -132,7 +132,7 @@ module _ (words : List ℕ) (operands : List Float) (results : ℕ) (schedule : 
           (at-stop (theirs turns p cells released) t′ (t′ .released)
           (segment L room schedule k cells released short (length schedule) turns le (view (p .machine)) (p .steps) (p .place) (omega arith) (s .enough) (s .few) (s .rows) (s .ordered))))
 
-  shows : length words ≤ listLimit → (k turns : ℕ) → turns < k → (p : Progress) (cells : List Float) (log : List Record) (released : List (Released Float)) → Stands turns p cells log released
+  shows : length words ≤ listLimit → (k turns : ℕ) → turns < k → (p : Progress) (cells : List Float) (log : List Record) (released : List (theory.Record Float)) → Stands turns p cells log released
       → FinalShows (theirs turns p cells released) (runs k p words operands cells schedule room log)
   shows short zero turns h p cells log released s = absurd (not-suc-le-zero h)
   shows short (suc k) turns h p cells log released s = one-stop k turns p cells log released s (shows short k) short (omega arith)
@@ -146,7 +146,7 @@ module _ (m : Machine) (words : List ℕ) (operands cells : List Float) (schedul
   whole number b =
       runs (suc (length schedule)) (record { machine = m; steps = 0; place = 0; refusal = number; records = 0; going = b }) words operands cells schedule (length log) log
 
-  abbrev Begins : Ran Float → Final → Type 0
+  abbrev Begins : ScheduleRun Float → Final → Type 0
   Begins = FinalShows words operands (length cells) schedule log
 
   not-begun : (number : ℕ) → Begins (notBegun binary64 ofList (length log) schedule (view m) cells number) (whole number false)
@@ -156,7 +156,7 @@ module _ (m : Machine) (words : List ℕ) (operands cells : List Float) (schedul
   abbrev entry : Bool → Bool → ℕ
   entry passed ordered = cond (not passed) (listRefusal binary64 ofList) (cond (not ordered) 6 0)
 
-  abbrev paper : Bool → Bool → Ran Float
+  abbrev paper : Bool → Bool → ScheduleRun Float
   paper passed ordered =
       cond (not passed) (notBegun binary64 ofList (length log) schedule (view m) cells (listRefusal binary64 ofList))
       (cond (not ordered) (notBegun binary64 ofList (length log) schedule (view m) cells 6)
@@ -171,11 +171,11 @@ module _ (m : Machine) (words : List ℕ) (operands cells : List Float) (schedul
         (record { machine = m; steps = 0; place = 0; refusal = 0; records = 0; going = true }) cells log []
         (record { going = refl; enough = omega arith; few = omega arith; rows = S; ordered = f; records = refl; area = refl; so-far = refl })
 
-    shows-run : Begins (run binary64 ofList (length log) schedule (view m) cells) (ran m words operands cells schedule log)
+    shows-run : Begins (run binary64 ofList (length log) schedule (view m) cells) (runByReleases m words operands cells schedule log)
     unfolding run beginning
     shows-run = by-entry (eqb (listRefusal binary64 ofList) 0) refl (inOrder binary64 ofList (view m)) refl
 
     -- what the loop has come to is the answer of the theory's run
-    pub run-answers : {r : Progress} {cells′ : List Float} {log′ : List Record} → record { run = r; cells = cells′; log = log′ } ≡ ran m words operands cells schedule log
+    pub run-answers : {r : Progress} {cells′ : List Float} {log′ : List Record} → record { run = r; cells = cells′; log = log′ } ≡ runByReleases m words operands cells schedule log
         → RunAnswer words operands m cells schedule log r cells′ log′
     run-answers e = subst (λ (f : Final). Begins (run binary64 ofList (length log) schedule (view m) cells) f) (sym e) shows-run

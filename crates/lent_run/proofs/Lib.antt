@@ -3,5 +3,5 @@ pub mod Answers
 pub mod Determined
 pub mod Kit
 pub mod Onward
-pub mod RanLaws
+pub mod ByReleasesLaws
 pub mod Shaped

@@ -9,7 +9,7 @@ use lib.ListN.{length}
 use Rattle.machine_steps.specs.declared.advance.Progress.{Progress}
 use Rattle.machine_steps.specs.Advance.{advanced}
 use Rattle.machine_steps.proofs.Moving.{advance-moves}
-use Rattle.lent_run.specs.Ran.{left}
+use Rattle.lent_run.specs.ByReleases.{left}
 
 pub progress : (words : List ℕ) (operands : List Float) (schedule : List ℕ) (room : ℕ) (r : Progress) (cells : List Float) → advanced r words operands cells schedule room .released ≡ true
     → left (advanced r words operands cells schedule room .progress) schedule < left r schedule

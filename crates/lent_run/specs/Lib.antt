@@ -1,2 +1,2 @@
-pub mod Ran
+pub mod ByReleases
 pub mod Run

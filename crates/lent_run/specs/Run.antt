@@ -6,7 +6,7 @@ use Prim.Native.Nat.{ℕ}
 use lib.Ieee.{Float}
 use lib.ListN.{length}
 use Rattle.theory_machine.specs.Binary64.{binary64}
-use Rattle.theory_run.specs.Run.{Ran, run, loggedOver}
+use Rattle.theory_run.specs.Run.{ScheduleRun, run, loggedOver}
 use Rattle.machine_parts.specs.declared.parts.Machine.{Machine}
 use Rattle.machine_parts.specs.declared.parts.Record.{Record}
 use Rattle.machine_parts.specs.View.{view, viewRecord, lent}
@@ -14,7 +14,7 @@ use Rattle.machine_steps.specs.declared.advance.Progress.{Progress}
 
 -- r shows the run w, and cells′ and log′ are what w leaves of the result cells and of the log that was given.
 -- 01: "Answer: steps done, byte place of the refused code (or the length), refusal, records written"; "later records are untouched"
-pub record Shows (w : Ran Float) (given : List Record) (r : Progress) (cells′ : List Float) (log′ : List Record) : Type 0 where
+pub record Shows (w : ScheduleRun Float) (given : List Record) (r : Progress) (cells′ : List Float) (log′ : List Record) : Type 0 where
   pub machine : view (r .machine) ≡ w .state .machine
   pub steps : r .steps ≡ w .steps
   pub place : r .place ≡ w .place

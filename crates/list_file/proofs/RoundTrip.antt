@@ -10,7 +10,7 @@ use lib.Seq.{take-append-seam}
 use borrow.Author.Tests.{ltb-true, ltb-false, lt-ltb, le-ltb, eqb-true, eqb-false}
 use Rattle.words.specs.declared.Verdict.{Verdict}
 use Rattle.words.specs.Check.{firstBad, listCheck, listCheckAlone, firstOf}
-use Rattle.list_file.specs.declared.Read.{Read}
+use Rattle.list_file.specs.declared.ListRead.{ListRead}
 use Rattle.list_file.specs.declared.Written.{Written}
 use Rattle.seven_bit.specs.SevenBits.{Parsed, accepted, refused, bytesOf}
 use Rattle.list_file.specs.Reading.{fieldAt, wordsAt, countRefusal, listIn, answered, stored, over, readAnswer, readWords}

@@ -6,7 +6,7 @@ use lib.Dec.{ltb, eqb}
 use lib.ListN.{length, drop}
 use Rattle.words.specs.Instructions.{wordOf, formOf, cellLimit, listLimit}
 use Rattle.words.specs.Check.{operationRefusal, registerRefusal, operandRefusal, firstOf}
-use Rattle.list_file.specs.declared.Read.{Read}
+use Rattle.list_file.specs.declared.ListRead.{ListRead}
 use Rattle.seven_bit.specs.SevenBits.{Parsed, accepted, refused, numberAt}
 
 -- "Reading goes left to right": what is read next begins where this ended; a refusal ends the reading
@@ -49,7 +49,7 @@ unfoldable pub listIn : (room : ℕ) → List ℕ → Parsed (List ℕ)
 listIn room bytes = andThen (fieldAt (countRefusal room) bytes 0) (λ count at. wordsAt count bytes at)
 
 -- "An accepted read gives the count, and the file's length as place; a refused one count 0."
-abbrev pub answered : Parsed (List ℕ) → Read
+abbrev pub answered : Parsed (List ℕ) → ListRead
 answered (accepted words end) = record { count = length words; refusal = 0; place = end }
 answered (refused refusal place) = record { count = 0; refusal = refusal; place = place }
 
@@ -63,7 +63,7 @@ stored (accepted words end) buffer = over words buffer
 stored (refused refusal place) buffer = buffer
 
 -- THE READER: a file and a word buffer give the answer and the buffer
-abbrev pub readAnswer : (bytes buffer : List ℕ) → Read
+abbrev pub readAnswer : (bytes buffer : List ℕ) → ListRead
 readAnswer bytes buffer = answered (listIn (length buffer) bytes)
 
 abbrev pub readWords : (bytes buffer : List ℕ) → List ℕ

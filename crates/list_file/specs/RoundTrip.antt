@@ -3,7 +3,7 @@ use mathlib.Core.Path.{_≡_}
 use mathlib.Core.List.{List}
 use Prim.Native.Nat.{ℕ, _<_}
 use lib.ListN.{length, getD, take}
-use Rattle.list_file.specs.declared.Read.{Read}
+use Rattle.list_file.specs.declared.ListRead.{ListRead}
 use Rattle.list_file.specs.declared.Written.{Written}
 use Rattle.list_file.specs.Reading.{readAnswer, readWords}
 use Rattle.list_file.specs.Writing.{writeAnswer, writeBytes}

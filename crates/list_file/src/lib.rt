@@ -3,7 +3,7 @@ pub mod reader;
 pub mod writer;
 
 // The answer of a read: how many words, and a refusal number of 01 (0 for accepted) with its byte place.
-pub struct Read {
+pub struct ListRead {
     pub count: usize,
     pub refusal: u32,
     pub place: usize,

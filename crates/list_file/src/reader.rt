@@ -1,5 +1,5 @@
 // The reader, in one pass over the file.
-use crate::Read;
+use crate::ListRead;
 use seven_bit::Parsed;
 use seven_bit::number_at;
 use words::CELL_LIMIT;
@@ -120,10 +120,10 @@ fn store_words(row: &[u32], words: &mut [u32])
     }
 }
 
-fn refused(refusal: u32, place: usize) -> Read
+fn refused(refusal: u32, place: usize) -> ListRead
     ensures { λ r. ⌜ r ≡ record { count = 0; refusal = refusal; place = place } ⌝ }
 {
-    Read {
+    ListRead {
         count: 0,
         refusal,
         place,
@@ -131,7 +131,7 @@ fn refused(refusal: u32, place: usize) -> Read
 }
 
 // A file whose count was accepted. "A refused call .. writes nothing" (01), so the words wait until the whole file is accepted.
-fn read_words(bytes: &[u8], start: usize, count: u32, words: &mut [u32]) -> Read
+fn read_words(bytes: &[u8], start: usize, count: u32, words: &mut [u32]) -> ListRead
     requires { ⌜ (count ≤ listLimit) × (count ≤ length (now words)) ⌝ }
     ensures { λ r. ⌜ (r ≡ answered (wordsAt count (now (bytes .entry)) start)) × (now (words .exit) ≡ stored (wordsAt count (now (bytes .entry)) start) (now (words .entry))) ⌝ }
 {
@@ -140,7 +140,7 @@ fn read_words(bytes: &[u8], start: usize, count: u32, words: &mut [u32]) -> Read
         Parsed::Accepted(_, end) => {
             let n = count as usize;
             store_words(&kept[..n], words);
-            Read {
+            ListRead {
                 count: n,
                 refusal: refusal::ACCEPTED,
                 place: end,
@@ -151,7 +151,7 @@ fn read_words(bytes: &[u8], start: usize, count: u32, words: &mut [u32]) -> Read
 }
 
 // Reads a list file into the words lent.
-pub fn read(bytes: &[u8], words: &mut [u32]) -> Read
+pub fn read(bytes: &[u8], words: &mut [u32]) -> ListRead
     ensures { λ r. ⌜ (r ≡ readAnswer (now (bytes .entry)) (now (words .entry))) × (now (words .exit) ≡ readWords (now (bytes .entry)) (now (words .entry))) ⌝ }
 {
     match number_at(bytes, 0) {

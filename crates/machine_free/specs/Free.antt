@@ -11,12 +11,12 @@ use Rattle.theory_machine.specs.Tags.{bufferCount, stationCount, storeCount, su
 use Rattle.theory_machine.specs.Machine as theory
 use Rattle.theory_machine.specs.Machine.{freeBuffer, freeStation, freeStore, isFreeBuffer, isFreeStation, isFreeStore, storeCell}
 use Rattle.theory_machine.specs.GoodOrder.{hasCell}
-use Rattle.machine_free.specs.declared.Found.{Found}
-use Rattle.machine_free.specs.declared.Found.the-variants.{At, Nothing}
+use Rattle.machine_free.specs.declared.FreeSlot.{FreeSlot}
+use Rattle.machine_free.specs.declared.FreeSlot.the-variants.{At, Nothing}
 
-abbrev pub viewFound : Found → Option ℕ
-viewFound (At i) = some i
-viewFound Nothing = none
+abbrev pub viewFreeSlot : FreeSlot → Option ℕ
+viewFreeSlot (At i) = some i
+viewFreeSlot Nothing = none
 
 -- THE LOWEST-NUMBERED FREE ONE of a row: order's, of the row alone
 abbrev pub lowestBufferIn : List (theory.Buffer Float) → Option ℕ

@@ -15,10 +15,10 @@ ghost use Rattle.theory_machine.specs.Tags.{suits, stationCount};
 ghost use Rattle.theory_machine.specs.Machine.{isFreeBuffer, isFreeStation, isFreeStore, storeCell};
 ghost use Rattle.theory_machine.specs.GoodOrder.{hasCell};
 ghost use Rattle.machine_parts.specs.View.{viewBuffer, viewStation, viewStore};
-ghost use Rattle.machine_free.specs.Free.{viewFound, lowestBufferIn, lowestStationIn, lowestStoreIn, cellLiveIn};
+ghost use Rattle.machine_free.specs.Free.{viewFreeSlot, lowestBufferIn, lowestStationIn, lowestStoreIn, cellLiveIn};
 
 // A slot by its index from 0, or none.
-pub enum Found {
+pub enum FreeSlot {
     At(usize),
     Nothing,
 }
@@ -34,15 +34,15 @@ fn buffer_free(b: Buffer) -> bool
     }
 }
 
-pub fn lowest_buffer(bs: [Buffer; 6]) -> Found
-    ensures { λ r. ⌜ viewFound r ≡ lowestBufferIn (map viewBuffer bs) ⌝ }
+pub fn lowest_buffer(bs: [Buffer; 6]) -> FreeSlot
+    ensures { λ r. ⌜ viewFreeSlot r ≡ lowestBufferIn (map viewBuffer bs) ⌝ }
 {
     for i in 0..bs.len() {
         if buffer_free(bs[i]) {
-            return Found::At(i);
+            return FreeSlot::At(i);
         }
     }
-    Found::Nothing
+    FreeSlot::Nothing
 }
 
 fn station_free(s: Station) -> bool
@@ -67,15 +67,15 @@ fn station_serves(s: Station, i: usize, o: Operation) -> bool
     false
 }
 
-pub fn lowest_station(ss: [Station; 5], o: Operation) -> Found
-    ensures { λ r. ⌜ viewFound r ≡ lowestStationIn (map viewStation ss) o ⌝ }
+pub fn lowest_station(ss: [Station; 5], o: Operation) -> FreeSlot
+    ensures { λ r. ⌜ viewFreeSlot r ≡ lowestStationIn (map viewStation ss) o ⌝ }
 {
     for i in 0..ss.len() {
         if station_serves(ss[i], i, o) {
-            return Found::At(i);
+            return FreeSlot::At(i);
         }
     }
-    Found::Nothing
+    FreeSlot::Nothing
 }
 
 fn store_free(s: StoreBuffer) -> bool
@@ -88,15 +88,15 @@ fn store_free(s: StoreBuffer) -> bool
     }
 }
 
-pub fn lowest_store(ts: [StoreBuffer; 3]) -> Found
-    ensures { λ r. ⌜ viewFound r ≡ lowestStoreIn (map viewStore ts) ⌝ }
+pub fn lowest_store(ts: [StoreBuffer; 3]) -> FreeSlot
+    ensures { λ r. ⌜ viewFreeSlot r ≡ lowestStoreIn (map viewStore ts) ⌝ }
 {
     for i in 0..ts.len() {
         if store_free(ts[i]) {
-            return Found::At(i);
+            return FreeSlot::At(i);
         }
     }
-    Found::Nothing
+    FreeSlot::Nothing
 }
 
 fn store_has(s: StoreBuffer, cell: usize) -> bool

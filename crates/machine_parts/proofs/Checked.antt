@@ -12,8 +12,8 @@ use Rattle.theory_machine.specs.Machine.{Kind, Lent, Machine}
 use Rattle.theory_machine.specs.Steps.{inOrder}
 use Rattle.theory_machine.specs.Count.{countLeft}
 use Rattle.theory_machine.specs.OneAtATime.{Run, runTo}
-use Rattle.theory_machine.specs.Entries.{StepsLeft, LowestStep, Fresh, Ran, emptyMachine, listRefusal, lowestPermitted, stepsLeft, lowestStep, fresh, oneAtATime}
-use Rattle.theory_machine.proofs.Entries.{refused-entries, fresh-is, ran-is, left-is}
+use Rattle.theory_machine.specs.Entries.{StepsLeft, LowestStep, Fresh, OneAtATime, emptyMachine, listRefusal, lowestPermitted, stepsLeft, lowestStep, fresh, oneAtATime}
+use Rattle.theory_machine.proofs.Entries.{refused-entries, fresh-is, one-at-a-time-is, left-is}
 
 module _ (K : Kind) (L : Lent (K .Num)) {v : Verdict} (e : v ≡ listCheck (length (L .operands)) (L .results) (L .words)) where
   pub list-passes : v .refusal ≡ 0 → listRefusal K L ≡ 0
@@ -53,4 +53,4 @@ module _ (K : Kind) (L : Lent (K .Num)) {v : Verdict} (e : v ≡ listCheck (leng
     fresh-taken starts = sym (fresh-is K L (list-passes z) starts)
 
     pub run-taken : (start : Run (K .Num)) → record { refusal = 0; run = runTo K L start (length (L .words)) } ≡ oneAtATime K L start
-    run-taken start = sym (ran-is K L (list-passes z) start)
+    run-taken start = sym (one-at-a-time-is K L (list-passes z) start)

@@ -46,5 +46,5 @@ machineOf m = record {
   stores = map storeOf (m .stores);
 }
 
-abbrev pub recordOf : theory.Released Float → Record
+abbrev pub recordOf : theory.Record Float → Record
 recordOf r = record { place = r .place; cell = r .cell; number = r .number }

@@ -65,11 +65,11 @@ view m = record {
   stores = map viewStore (m .stores);
 }
 
-abbrev pub viewRecord : Record → theory.Released Float
+abbrev pub viewRecord : Record → theory.Record Float
 viewRecord r = record { place = r .place; cell = r .cell; number = r .number }
 
 -- what was released, if anything
-abbrev pub viewReleased : Released → Option (theory.Released Float)
+abbrev pub viewReleased : Released → Option (theory.Record Float)
 viewReleased Nothing = none
 viewReleased (One r) = some (viewRecord r)
 

@@ -11,27 +11,27 @@ use Rattle.theory_machine.specs.Binary64.{binary64}
 use Rattle.theory_machine.specs.Steps as steps
 use Rattle.theory_machine.specs.Steps.{stepOf, performStep, perform}
 use Rattle.theory_machine.proofs.Rows.{allBelow-at, inside, above, absurd-bool}
-use Rattle.machine_slots.specs.Slots.{viewStep, InRow, Read}
+use Rattle.machine_slots.specs.Slots.{viewStep, InRow, ReadsAs}
 use Rattle.machine_slots.specs.declared.code.Step.{Step}
 use Rattle.machine_slots.specs.declared.code.Step.the-variants.{Unknown, Issue, Arrival, Completion, BufferGrant, StationGrant, Release}
 
 module _ (code : ℕ) where
-  pub read-issue : code ≡ 0 → Read code Issue
+  pub read-issue : code ≡ 0 → ReadsAs code Issue
   unfolding stepOf
   read-issue e = record { step = rw (eq-eqb code 0 e); within = tt }
 
-  pub read-arrival : 17 ≤ code → code ≤ 22 → Read code (Arrival (code - 17))
+  pub read-arrival : 17 ≤ code → code ≤ 22 → ReadsAs code (Arrival (code - 17))
   unfolding stepOf
   read-arrival a b = record { step = rw (ne-eqb code 0 (λ z. omega arith), inside 17 22 code a b); within = omega arith }
 
-  pub read-completion : 40 ≤ code → code ≤ 44 → Read code (Completion (code - 40))
+  pub read-completion : 40 ≤ code → code ≤ 44 → ReadsAs code (Completion (code - 40))
   unfolding stepOf
   read-completion a b = record {
     step = rw (ne-eqb code 0 (λ z. omega arith), above 17 22 code (omega arith), inside 40 44 code a b);
     within = omega arith;
   }
 
-  pub read-buffer-grant : 49 ≤ code → code ≤ 54 → Read code (BufferGrant (code - 49))
+  pub read-buffer-grant : 49 ≤ code → code ≤ 54 → ReadsAs code (BufferGrant (code - 49))
   unfolding stepOf
   read-buffer-grant a b = record {
     step =
@@ -39,7 +39,7 @@ module _ (code : ℕ) where
     within = omega arith;
   }
 
-  pub read-station-grant : 56 ≤ code → code ≤ 60 → Read code (StationGrant (code - 56))
+  pub read-station-grant : 56 ≤ code → code ≤ 60 → ReadsAs code (StationGrant (code - 56))
   unfolding stepOf
   read-station-grant a b = record {
     step =
@@ -53,7 +53,7 @@ module _ (code : ℕ) where
     within = omega arith;
   }
 
-  pub read-release : 65 ≤ code → code ≤ 67 → Read code (Release (code - 65))
+  pub read-release : 65 ≤ code → code ≤ 67 → ReadsAs code (Release (code - 65))
   unfolding stepOf
   read-release a b = record {
     step =
@@ -68,7 +68,7 @@ module _ (code : ℕ) where
     within = omega arith;
   }
 
-  pub read-beyond : 67 < code → Read code Unknown
+  pub read-beyond : 67 < code → ReadsAs code Unknown
   unfolding stepOf
   read-beyond a = record {
     step =
@@ -106,7 +106,7 @@ is-unknown (steps.release i) e = absurd-bool e refl
 abbrev Gap : (lo n : ℕ) → Type 0
 Gap lo n = allBelow n (λ i. isUnknown (stepOf (lo + i))) ≡ true
 
-read-gap : (lo n code : ℕ) → Gap lo n → lo ≤ code → code < lo + n → Read code Unknown
+read-gap : (lo n code : ℕ) → Gap lo n → lo ≤ code → code < lo + n → ReadsAs code Unknown
 read-gap lo n code g a b =
     let z : lo + (code - lo) ≡ code = omega arith in
     let u = allBelow-at n (λ i. isUnknown (stepOf (lo + i))) g (code - lo) (omega arith) in
@@ -117,28 +117,28 @@ positive zero h = absurd (h refl)
 positive (suc n) h = omega arith
 
 module _ (code : ℕ) where
-  pub read-before-arrival : (code ≡ 0 → ⊥) → code < 17 → Read code Unknown
+  pub read-before-arrival : (code ≡ 0 → ⊥) → code < 17 → ReadsAs code Unknown
   unfolding isUnknown stepOf
   read-before-arrival n = read-gap 1 16 code refl (positive code n)
 
-  pub read-before-completion : 23 ≤ code → code < 40 → Read code Unknown
+  pub read-before-completion : 23 ≤ code → code < 40 → ReadsAs code Unknown
   unfolding isUnknown stepOf
   read-before-completion = read-gap 23 17 code refl
 
-  pub read-before-grant : 45 ≤ code → code < 49 → Read code Unknown
+  pub read-before-grant : 45 ≤ code → code < 49 → ReadsAs code Unknown
   unfolding isUnknown stepOf
   read-before-grant = read-gap 45 4 code refl
 
-  pub read-between-grants : 55 ≤ code → code < 56 → Read code Unknown
+  pub read-between-grants : 55 ≤ code → code < 56 → ReadsAs code Unknown
   unfolding isUnknown stepOf
   read-between-grants = read-gap 55 1 code refl
 
-  pub read-before-release : 61 ≤ code → code < 65 → Read code Unknown
+  pub read-before-release : 61 ≤ code → code < 65 → ReadsAs code Unknown
   unfolding isUnknown stepOf
   read-before-release = read-gap 61 4 code refl
 
 -- WHAT A READ CODE DOES, once it is known which
-module _ {code : ℕ} {r s : Step} (w : Read code r) (e : r ≡ s) where
+module _ {code : ℕ} {r s : Step} (w : ReadsAs code r) (e : r ≡ s) where
   pub in-row : InRow s
   in-row = rw e at (w .within)
 

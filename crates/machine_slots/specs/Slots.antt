@@ -27,6 +27,6 @@ InRow (BufferGrant i) = i < bufferCount
 InRow (StationGrant i) = i < stationCount
 InRow (Release i) = i < storeCount
 
-pub record Read (code : ℕ) (r : Step) : Type 0 where
+pub record ReadsAs (code : ℕ) (r : Step) : Type 0 where
   pub step : viewStep r ≡ stepOf code
   pub within : InRow r

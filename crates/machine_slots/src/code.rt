@@ -1,7 +1,7 @@
 // The step codes of 01, named once, and a code read.
 use machine_parts::parts::Tag;
 ghost use mathlib.Core.Path.{_≡_};
-ghost use Rattle.machine_slots.specs.Slots.{Read};
+ghost use Rattle.machine_slots.specs.Slots.{ReadsAs};
 
 // "0", "16+b", "32+u", "48+t", "64+s"
 const ISSUE: u32 = 0;
@@ -54,7 +54,7 @@ pub enum Step {
 }
 
 pub fn step_of(code: u32) -> Step
-    ensures { λ r. ⌜ Read code r ⌝ }
+    ensures { λ r. ⌜ ReadsAs code r ⌝ }
 {
     match code {
         ISSUE => Step::Issue,

@@ -11,7 +11,7 @@ use lib.ListN.{length}
 use borrow.Author.Tests.{eq-eqb, ne-eqb, lt-ltb, le-ltb, ltb-true}
 use Rattle.seven_bit.specs.SevenBits.{Parsed, accepted, refused, numberAt}
 use Rattle.theory_machine.specs.Machine as theory
-use Rattle.theory_machine.specs.Machine.{Lent, Released}
+use Rattle.theory_machine.specs.Machine.{Lent}
 use Rattle.theory_machine.specs.Issue.{Answer, isTaken}
 use Rattle.theory_machine.specs.Steps.{perform}
 use Rattle.theory_machine.proofs.Rows.{cond-cases}
@@ -33,7 +33,7 @@ use Rattle.machine_take.specs.Inside.{lentTo}
 use Rattle.machine_take.specs.Taking as taking
 use Rattle.machine_take.specs.Taking.{Taken, viewTaken, byNumber, byRelease, afterStep, takeFrom}
 use Rattle.machine_take.proofs.Counted.{counted, counted-on, few-steps}
-use Rattle.machine_steps.specs.Advance.{beginning, stays, stopped, takenOn, goes, advanced, cellsAfter}
+use Rattle.machine_steps.specs.Advance.{beginning, stays, stopOf, takenOn, goes, advanced, cellsAfter}
 
 module _ (m : Machine) (words : List ℕ) (operands : List Float) (results : ℕ) {v : Verdict} (e : v ≡ listCheck (length operands) results words) where
   listed : listCheck (length operands) results words .refusal ≡ v .refusal
@@ -61,8 +61,8 @@ begins-so m words operands results q = λ i. record { machine = m; steps = 0; pl
 module _ (L : Lent Float) (schedule : List ℕ) where
   module _ (m : theory.Machine Float) (steps place : ℕ) (onward : (next : ℕ) → theory.Machine Float → Taken)
       (later : (next : ℕ) (n : theory.Machine Float) → onward next n .released ≡ none) where
-    by-release : (r : Option (Released Float)) (next : ℕ) (n : theory.Machine Float)
-        → byRelease r (onward next n) (λ r. cond false (record { machine = n; steps = suc steps; place = next; refusal = 0; released = some r }) (taking.stopped m steps place 11)) .released ≡ none
+    by-release : (r : Option (theory.Record Float)) (next : ℕ) (n : theory.Machine Float)
+        → byRelease r (onward next n) (λ r. cond false (record { machine = n; steps = suc steps; place = next; refusal = 0; released = some r }) (taking.endedAt m steps place 11)) .released ≡ none
     by-release none next n = later next n
     by-release (some r) next n = refl
 
@@ -70,7 +70,7 @@ module _ (L : Lent Float) (schedule : List ℕ) where
     by-answer next a = cond-cases (λ (t : Taken). t .released ≡ none) (not (isTaken a)) (λ _. refl) (λ _. by-release (a .released) next (a .machine))
 
     by-number : (n : Parsed ℕ)
-        → byNumber n (λ number. taking.stopped m steps place number) (λ code next. afterStep L false schedule m steps place next (perform binary64 L m code) (onward next)) .released ≡ none
+        → byNumber n (λ number. taking.endedAt m steps place number) (λ code next. afterStep L false schedule m steps place next (perform binary64 L m code) (onward next)) .released ≡ none
     by-number (refused number at) = refl
     by-number (accepted code next) = by-answer next (perform binary64 L m code)
 
@@ -81,13 +81,13 @@ module _ (L : Lent Float) (schedule : List ℕ) where
       cond-cases (λ (t : Taken). t .released ≡ none) (leb (length schedule) place) (λ _. refl)
       (λ _. by-number m steps place (λ next n. takeFrom L false schedule k n (suc steps) next) (λ next n. no-room k n (suc steps) next) (numberAt schedule place))
 
-  pub released-room : (room : Bool) (k : ℕ) (m : theory.Machine Float) (steps place : ℕ) {r : Released Float}
+  pub released-room : (room : Bool) (k : ℕ) (m : theory.Machine Float) (steps place : ℕ) {r : theory.Record Float}
       → takeFrom L room schedule k m steps place .released ≡ some r → room ≡ true
   released-room true k m steps place e = refl
   released-room false k m steps place e = absurd (let z : _≡_ {A = ℕ} 0 1 = none-some (sym (no-room k m steps place) ∙ e) in omega arith)
     where
-      none-some : {r : Released Float} → none ≡ some r → _≡_ {A = ℕ} 0 1
-      none-some q = ap (λ (o : Option (Released Float)). byRelease o 0 (λ _. 1)) q
+      none-some : {r : theory.Record Float} → none ≡ some r → _≡_ {A = ℕ} 0 1
+      none-some q = ap (λ (o : Option (theory.Record Float)). byRelease o 0 (λ _. 1)) q
 
 module _ (p : Progress) (words : List ℕ) (operands cells : List Float) (schedule : List ℕ) (room : ℕ) where
   abbrev pub Stops : Stop → List Float → Type 0
@@ -129,9 +129,9 @@ module _ (p : Progress) (words : List ℕ) (operands cells : List Float) (schedu
     unfolding cellsAfter
     cells-so = w ∙ ap (λ (t : Taken). written cells (t .released)) e ∙ rw going-on
 
-    stop-so : stopped p (counted (p .steps) (viewTaken t)) (viewReleased (t .released)) ≡ advanced p words operands cells schedule room
+    stop-so : stopOf p (counted (p .steps) (viewTaken t)) (viewReleased (t .released)) ≡ advanced p words operands cells schedule room
     unfolding advanced
-    stop-so = ap (λ (t : Taken). stopped p t (t .released)) e ∙ rw going-on
+    stop-so = ap (λ (t : Taken). stopOf p t (t .released)) e ∙ rw going-on
 
     pub no-release : t .released ≡ Nothing → {r : Stop}
         → r ≡ stays (record { machine = t .machine; steps = p .steps + t .steps; place = t .place; refusal = t .refusal; records = p .records; going = false })

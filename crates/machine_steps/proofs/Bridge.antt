@@ -27,7 +27,7 @@ use Rattle.machine_steps.specs.Step.{StepAnswer}
 use Rattle.machine_steps.specs.Chain.{Stand, seen, freshly, next, Chained, here, then, takenIn, Bridge, DemandThree}
 
 -- a release leaves the result area as long as it was
-written-long : (cells : List Float) (o : Option (theory.Released Float)) → length (written cells o) ≡ length cells
+written-long : (cells : List Float) (o : Option (theory.Record Float)) → length (written cells o) ≡ length cells
 written-long cells none = refl
 written-long cells (some r) = length-set cells (r .cell) (r .number)
 

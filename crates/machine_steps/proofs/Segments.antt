@@ -11,27 +11,27 @@ use lib.ListN.{length}
 use borrow.Author.Tests.{ltb-true, ltb-false, le-leb, lt-leb, eqb-true}
 use Rattle.words.specs.Instructions.{listLimit}
 use Rattle.seven_bit.specs.SevenBits.{Parsed, accepted, refused, numberAt}
-use Rattle.theory_machine.specs.Machine.{Lent, Machine, Shape, Released}
+use Rattle.theory_machine.specs.Machine.{Lent, Machine, Shape, Record}
 use Rattle.theory_machine.specs.Binary64.{binary64}
 use Rattle.theory_machine.specs.Issue.{Answer}
 use Rattle.theory_machine.specs.Steps.{perform, inOrder}
 use Rattle.theory_machine.specs.Asked.{State, written}
 use Rattle.theory_machine.proofs.Rows.{both-cases}
 use Rattle.theory_machine.proofs.Theorems.{goodOrderKept, stepIsPerform}
-use Rattle.theory_run.specs.Run.{Ran, byTurn, turn, turnOf, runFrom}
-use Rattle.machine_take.specs.Taking.{Taken, stopped, byNumber, afterStep, takeFrom}
+use Rattle.theory_run.specs.Run.{ScheduleRun, byTurn, turn, turnOf, runFrom}
+use Rattle.machine_take.specs.Taking.{Taken, endedAt, byNumber, afterStep, takeFrom}
 use Rattle.machine_take.proofs.Forwards.{moves-on}
 
-abbrev pub stateAt : Machine Float → (cells : List Float) → (log : List (Released Float)) → State Float
+abbrev pub stateAt : Machine Float → (cells : List Float) → (log : List (Record Float)) → State Float
 stateAt m cells log = record { machine = m; cells = cells; log = log }
 
 module _ (L : Lent Float) (room : ℕ) (schedule : List ℕ) where
   -- the theory's run from a state
-  abbrev pub onFrom : (turns : ℕ) → State Float → (steps place : ℕ) → Ran Float
+  abbrev pub onFrom : (turns : ℕ) → State Float → (steps place : ℕ) → ScheduleRun Float
   onFrom turns s steps place = runFrom binary64 L room schedule turns s steps place
 
   -- w is the run from the release r on, of fewer than `before` turns; and what a run keeps, is kept
-  pub record Onto (before : ℕ) (cells : List Float) (log : List (Released Float)) (t : Taken) (r : Released Float) (w : Ran Float) : Type 0 where
+  pub record Onto (before : ℕ) (cells : List Float) (log : List (Record Float)) (t : Taken) (r : Record Float) (w : ScheduleRun Float) : Type 0 where
     pub turns : ℕ
     pub fewer : turns < before
     pub enough : length schedule ≤ t .place + turns
@@ -41,17 +41,17 @@ module _ (L : Lent Float) (room : ℕ) (schedule : List ℕ) where
     pub ordered : inOrder binary64 L (t .machine) ≡ true
     pub fits : length log < room
 
-  module _ (before : ℕ) (cells : List Float) (log : List (Released Float)) where
+  module _ (before : ℕ) (cells : List Float) (log : List (Record Float)) where
     -- where codes stop, and the run from where they began
-    abbrev pub SegmentBy : Option (Released Float) → Taken → Ran Float → Type 0
+    abbrev pub SegmentBy : Option (Record Float) → Taken → ScheduleRun Float → Type 0
     SegmentBy none t w = w ≡ record { state = stateAt (t .machine) cells log; steps = t .steps; place = t .place; refusal = t .refusal }
     SegmentBy (some r) t w = Onto before cells log t r w
 
-    abbrev pub Segment : Taken → Ran Float → Type 0
+    abbrev pub Segment : Taken → ScheduleRun Float → Type 0
     Segment t w = SegmentBy (t .released) t w
 
     module _ (m : Machine Float) (steps place : ℕ) where
-      abbrev ends : ℕ → Ran Float
+      abbrev ends : ℕ → ScheduleRun Float
       ends number = record { state = stateAt m cells log; steps = steps; place = place; refusal = number }
 
       module _ (j : ℕ) (below : j < before) (next : ℕ) (enough : length schedule ≤ next + j) (few : suc steps ≤ next) (onward : Machine Float → Taken)
@@ -61,7 +61,7 @@ module _ (L : Lent Float) (room : ℕ) (schedule : List ℕ) where
             (byTurn (turnOf binary64 L room (stateAt m cells log) next a) ends (λ t at. onFrom j t (suc steps) at))
 
         module _ (n : Machine Float) (S : Shape n) (o : inOrder binary64 L n ≡ true) where
-          at-release : (r : Released Float) (b : Bool) → ltb (length log) room ≡ b → Both (record { refusal = 0; machine = n; released = some r })
+          at-release : (r : Record Float) (b : Bool) → ltb (length log) room ≡ b → Both (record { refusal = 0; machine = n; released = some r })
           at-release r true e = rw (e, lt-leb room (length log) (ltb-true (length log) room e)) (record {
             turns = j;
             fewer = below;
@@ -74,11 +74,11 @@ module _ (L : Lent Float) (room : ℕ) (schedule : List ℕ) where
           })
           at-release r false e = rw (e, le-leb room (length log) (ltb-false (length log) room e)) refl
 
-          by-release : (r : Option (Released Float)) → Both (record { refusal = 0; machine = n; released = r })
+          by-release : (r : Option (Record Float)) → Both (record { refusal = 0; machine = n; released = r })
           by-release none = later n S o
           by-release (some r) = at-release r (ltb (length log) room) refl
 
-        by-answer : (number : ℕ) (n : Machine Float) (r : Option (Released Float)) → (number ≡ 0 → Shape n × (inOrder binary64 L n ≡ true))
+        by-answer : (number : ℕ) (n : Machine Float) (r : Option (Record Float)) → (number ≡ 0 → Shape n × (inOrder binary64 L n ≡ true))
             → (b : Bool) → eqb number 0 ≡ b → Both (record { refusal = number; machine = n; released = r })
         by-answer number n r kept true e =
             let z = eqb-true number 0 e in rw z (by-release n (kept z .0) (kept z .1) r)
@@ -96,7 +96,7 @@ module _ (L : Lent Float) (room : ℕ) (schedule : List ℕ) where
             (later : (next : ℕ) → place < next → (n : Machine Float) → Shape n → inOrder binary64 L n ≡ true
             → Segment (onward next n) (onFrom j (stateAt n cells log) (suc steps) next)) where
           by-number : (p : Parsed ℕ) → numberAt schedule place ≡ p
-              → Segment (byNumber p (λ number. stopped m steps place number) (λ code next. afterStep L (ltb (length log) room) schedule m steps place next (perform binary64 L m code) (onward next)))
+              → Segment (byNumber p (λ number. endedAt m steps place number) (λ code next. afterStep L (ltb (length log) room) schedule m steps place next (perform binary64 L m code) (onward next)))
               (byTurn (turn binary64 L room (stateAt m cells log) p) ends (λ t at. onFrom j t (suc steps) at))
           by-number (refused number at) e = refl
           by-number (accepted code next) e =

@@ -10,7 +10,7 @@ use lib.ListN.{length}
 use borrow.Author.Tests.{lt-ltb, le-ltb, lt-leb, ne-eqb}
 use Rattle.seven_bit.specs.SevenBits.{accepted, numberIn, numberAt}
 use Rattle.theory_machine.specs.Machine as theory
-use Rattle.theory_machine.specs.Machine.{Lent, Released}
+use Rattle.theory_machine.specs.Machine.{Lent, Record}
 use Rattle.theory_machine.proofs.Rows.{above}
 use Rattle.theory_machine.proofs.Tags.{firstArrival, lastArrival, firstCompletion, lastCompletion, firstBufferGrant, lastBufferGrant, firstStationGrant, lastStationGrant, firstRelease, lastRelease}
 use Rattle.theory_machine.proofs.Moves.{Reply, leaves, does, of-perform}
@@ -56,7 +56,7 @@ module _ (L : Lent Float) (m : theory.Machine Float) (code : ℕ) where
   by-answer a (leaves h p q) = rw (ne-eqb (a .refusal) 0 h) (record { machine = sym p; refusal = refl; released = sym q })
   by-answer a (does v e p q) = go (a .released) refl
     where
-      go : (r : Option (Released Float)) → a .released ≡ r
+      go : (r : Option (Record Float)) → a .released ≡ r
           → OneStep (afterStep L true (code ∷ []) m 0 0 1 a (λ n. takeFrom L true (code ∷ []) 0 n 1 1)) a
       go none z = rw (e, z) (record { machine = refl; refusal = refl; released = refl })
       go (some r) z = rw (e, z) (record { machine = refl; refusal = refl; released = refl })

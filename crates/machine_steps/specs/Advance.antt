@@ -46,10 +46,10 @@ abbrev pub stays : Progress → Stop
 stays p = record { progress = p; made = blank; index = p .records; released = false }
 
 -- what codes taken come to: over, or at a release
-abbrev pub stopped : Progress → Taken → Option (theory.Released Float) → Stop
-stopped p t none =
+abbrev pub stopOf : Progress → Taken → Option (theory.Record Float) → Stop
+stopOf p t none =
     stays (record { machine = machineOf (t .machine); steps = t .steps; place = t .place; refusal = t .refusal; records = p .records; going = false })
-stopped p t (some r) = record {
+stopOf p t (some r) = record {
   progress = record { machine = machineOf (t .machine); steps = t .steps; place = t .place; refusal = t .refusal; records = p .records + 1; going = true };
   made = recordOf r;
   index = p .records;
@@ -65,7 +65,7 @@ module _ (p : Progress) (words : List ℕ) (operands cells : List Float) (schedu
   goes = cond (p .going) (not (ltb (p .place) (p .steps))) false
 
   unfoldable pub advanced : Stop
-  advanced = cond goes (stopped p takenOn (takenOn .released)) (stays p)
+  advanced = cond goes (stopOf p takenOn (takenOn .released)) (stays p)
 
   unfoldable pub cellsAfter : List Float
   cellsAfter = cond goes (written cells (takenOn .released)) cells

@@ -24,7 +24,7 @@ use Rattle.machine_steps.specs.Step.{StepAnswer}
 pub record Stand : Type 0 where
   pub machine : Machine
   pub cells : List Float
-  pub log : List (theory.Released Float)
+  pub log : List (theory.Record Float)
 
 -- as the theory sees it
 abbrev pub seen : Stand → State Float

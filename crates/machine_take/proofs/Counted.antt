@@ -10,12 +10,12 @@ use lib.Ieee.{Float}
 use lib.ListN.{length}
 use borrow.Author.Tests.{leb-false}
 use Rattle.seven_bit.specs.SevenBits.{Parsed, accepted, refused, numberAt}
-use Rattle.theory_machine.specs.Machine.{Lent, Machine, Released}
+use Rattle.theory_machine.specs.Machine.{Lent, Machine, Record}
 use Rattle.theory_machine.specs.Binary64.{binary64}
 use Rattle.theory_machine.specs.Issue.{Answer, isTaken}
 use Rattle.theory_machine.specs.Steps.{perform}
 use Rattle.theory_machine.proofs.Rows.{cond-cases, both-cases}
-use Rattle.machine_take.specs.Taking.{Taken, stopped, byNumber, byRelease, afterStep, takeFrom}
+use Rattle.machine_take.specs.Taking.{Taken, endedAt, byNumber, byRelease, afterStep, takeFrom}
 use Rattle.machine_take.proofs.Forwards.{moves-on}
 
 abbrev pub counted : (before : ℕ) → Taken → Taken
@@ -23,7 +23,7 @@ counted before t = record { machine = t .machine; steps = before + t .steps; pla
 
 module _ (L : Lent Float) (room : Bool) (schedule : List ℕ) where
   -- at a release, where its record has room
-  abbrev Out : Machine Float → (steps next : ℕ) → Released Float → Taken
+  abbrev Out : Machine Float → (steps next : ℕ) → Record Float → Taken
   Out m steps next r = record { machine = m; steps = suc steps; place = next; refusal = 0; released = some r }
 
   module _ (before : ℕ) where
@@ -31,15 +31,15 @@ module _ (L : Lent Float) (room : Bool) (schedule : List ℕ) where
     After t u = t ≡ counted before u
 
     module _ (m : Machine Float) (s t place : ℕ) (e : s ≡ before + t) where
-      stop-after : (number : ℕ) → After (stopped m s place number) (stopped m t place number)
-      stop-after number = λ i. stopped m (e i) place number
+      stop-after : (number : ℕ) → After (endedAt m s place number) (endedAt m t place number)
+      stop-after number = λ i. endedAt m (e i) place number
 
-      out-after : (n : Machine Float) (next : ℕ) (r : Released Float) → After (Out n s next r) (Out n t next r)
+      out-after : (n : Machine Float) (next : ℕ) (r : Record Float) → After (Out n s next r) (Out n t next r)
       out-after n next r = let z : suc s ≡ before + suc t = omega arith in λ i. record { machine = n; steps = z i; place = next; refusal = 0; released = some r }
 
       module _ (on on′ : (next : ℕ) → Machine Float → Taken) (later : (next : ℕ) (n : Machine Float) → After (on next n) (on′ next n)) where
-        by-release : (next : ℕ) (n : Machine Float) (o : Option (Released Float))
-            → After (byRelease o (on next n) (λ r. cond room (Out n s next r) (stopped m s place 11))) (byRelease o (on′ next n) (λ r. cond room (Out n t next r) (stopped m t place 11)))
+        by-release : (next : ℕ) (n : Machine Float) (o : Option (Record Float))
+            → After (byRelease o (on next n) (λ r. cond room (Out n s next r) (endedAt m s place 11))) (byRelease o (on′ next n) (λ r. cond room (Out n t next r) (endedAt m t place 11)))
         by-release next n none = later next n
         by-release next n (some r) = both-cases After room (λ _. out-after n next r) (λ _. stop-after 11)
 
@@ -47,8 +47,8 @@ module _ (L : Lent Float) (room : Bool) (schedule : List ℕ) where
         by-answer next a = both-cases After (not (isTaken a)) (λ _. stop-after (a .refusal)) (λ _. by-release next (a .machine) (a .released))
 
         by-number : (p : Parsed ℕ)
-            → After (byNumber p (λ number. stopped m s place number) (λ code next. afterStep L room schedule m s place next (perform binary64 L m code) (on next)))
-            (byNumber p (λ number. stopped m t place number) (λ code next. afterStep L room schedule m t place next (perform binary64 L m code) (on′ next)))
+            → After (byNumber p (λ number. endedAt m s place number) (λ code next. afterStep L room schedule m s place next (perform binary64 L m code) (on next)))
+            (byNumber p (λ number. endedAt m t place number) (λ code next. afterStep L room schedule m t place next (perform binary64 L m code) (on′ next)))
         by-number (refused number at) = stop-after number
         by-number (accepted code next) = by-answer next (perform binary64 L m code)
 
@@ -69,12 +69,12 @@ module _ (L : Lent Float) (room : Bool) (schedule : List ℕ) where
       few-answer : (next : ℕ) → place < next → (a : Answer Float) → Few (afterStep L room schedule m s place next a (on next))
       few-answer next h a = cond-cases Few (not (isTaken a)) (λ _. omega arith) (λ _. by-release (a .released))
         where
-          by-release : (o : Option (Released Float)) → Few (byRelease o (on next (a .machine)) (λ r. cond room (Out (a .machine) s next r) (stopped m s place 11)))
+          by-release : (o : Option (Record Float)) → Few (byRelease o (on next (a .machine)) (λ r. cond room (Out (a .machine) s next r) (endedAt m s place 11)))
           by-release none = omega (arith, later next (a .machine))
           by-release (some r) = cond-cases Few room (λ _. omega arith) (λ _. omega arith)
 
       few-number : (p : Parsed ℕ) → numberAt schedule place ≡ p
-          → Few (byNumber p (λ number. stopped m s place number) (λ code next. afterStep L room schedule m s place next (perform binary64 L m code) (on next)))
+          → Few (byNumber p (λ number. endedAt m s place number) (λ code next. afterStep L room schedule m s place next (perform binary64 L m code) (on next)))
       few-number (refused number at) e = omega arith
       few-number (accepted code next) e = few-answer next (moves-on schedule place e) (perform binary64 L m code)
 

@@ -3,7 +3,7 @@ use mathlib.Core.Path.{_≡_, refl, ap}
 use mathlib.Core.Option.{Option·some-injective}
 use lib.Ieee.{Float}
 use Rattle.numbers.proofs.Determined.{Determines, one-answer}
-use Rattle.theory_machine.specs.Machine.{Released as ReleasedOf}
+use Rattle.theory_machine.specs.Machine.{Record as TheRecord}
 use Rattle.machine_parts.specs.declared.parts.Released.{Released}
 use Rattle.machine_parts.specs.declared.parts.Released.the-variants.{Nothing, One}
 use Rattle.machine_parts.specs.View.{viewRecord, viewReleased}
@@ -18,7 +18,7 @@ released-exact Nothing Nothing e = refl
 released-exact Nothing (One y) e = cc
 released-exact (One x) Nothing e = cc
 released-exact (One x) (One y) e =
-    ap One (ap (λ (r : ReleasedOf Float). record { place = r .place; cell = r .cell; number = r .number }) (Option·some-injective (viewRecord x) (viewRecord y) e))
+    ap One (ap (λ (r : TheRecord Float). record { place = r .place; cell = r .cell; number = r .number }) (Option·some-injective (viewRecord x) (viewRecord y) e))
 
 taken-exact : (x y : code.Taken) → viewTaken x ≡ viewTaken y → x ≡ y
 taken-exact x y e =

@@ -22,11 +22,11 @@ use Rattle.theory_machine.specs.Issue.{refused, taken, lowestBuffer, lowestStat
 use Rattle.theory_machine.proofs.Rows.{first-some}
 use Rattle.theory_machine.proofs.Words.{WellFormed, word-formed}
 use Rattle.machine_parts.specs.View.{viewRegister, viewBuffer, viewStation, viewStore}
-use Rattle.machine_free.specs.Free.{viewFound, lowestBufferIn, lowestStationIn, lowestStoreIn, cellLiveIn}
-use Rattle.machine_take.specs.Changes.{changed, Within, Grows, asked, RegistersIn, standing, Issues, IssuesNext}
+use Rattle.machine_free.specs.Free.{viewFreeSlot, lowestBufferIn, lowestStationIn, lowestStoreIn, cellLiveIn}
+use Rattle.machine_take.specs.Changes.{changed, Within, Grows, instructionFor, RegistersIn, standing, Issues, IssuesNext}
 use Rattle.machine_take.specs.declared.change.Change.{Change}
 use Rattle.machine_take.specs.declared.change.Change.the-variants.{Refused, Loads, TakesCell, Copies, TakesRegister, Stores}
-use Rattle.machine_free.specs.declared.Found.{Found}
+use Rattle.machine_free.specs.declared.FreeSlot.{FreeSlot}
 use Rattle.machine_parts.specs.declared.parts.Operand.the-variants.{Number}
 use Rattle.machine_parts.specs.declared.parts.Register.{Register}
 use Rattle.machine_parts.specs.declared.parts.Buffer.{Buffer}
@@ -35,8 +35,8 @@ use Rattle.machine_parts.specs.declared.parts.StoreBuffer.{StoreBuffer}
 use Rattle.machine_parts.proofs.Seen.{any-default}
 
 -- the answer of a finder, once it is known which
-pub told : {r f : Found} {o : Option ℕ} → viewFound r ≡ o → r ≡ f → o ≡ viewFound f
-told e q = sym e ∙ ap viewFound q
+pub told : {r f : FreeSlot} {o : Option ℕ} → viewFreeSlot r ≡ o → r ≡ f → o ≡ viewFreeSlot f
+told e q = sym e ∙ ap viewFreeSlot q
 
 -- a register is read within its row
 pub register-seen : (rs : List Register) (x : ℕ) → length rs ≡ registerCount → x < registerCount
@@ -75,7 +75,7 @@ module _ (m : Machine Float) where
   store-by r c e f = λ i. cond (e i) (refused m 7) (withSlot m (f i) (λ t. storing binary64 m r c t))
 
 -- WHICH INSTRUCTION, by the word's form: r is R1's index
-is-asked : (f : Form) (r1 x : ℕ) → instruction f r1 x ≡ asked f (indexOf r1) x
+is-asked : (f : Form) (r1 x : ℕ) → instruction f r1 x ≡ instructionFor f (indexOf r1) x
 is-asked Unknown r1 x = refl
 is-asked LD r1 x = refl
 is-asked LDR r1 x = refl
@@ -100,21 +100,21 @@ registers-in operands results (cellArithmetic o r c) w = w .0
 registers-in operands results (registerArithmetic o r x) w = w
 
 module _ {L : Lent Float} {place r operand : ℕ} {f : Form} (w : Reading L place r operand f) where
-  decoded : decode (wordAt binary64 L place) ≡ asked f r operand
+  decoded : decode (wordAt binary64 L place) ≡ instructionFor f r operand
   unfolding decode
   decoded =
       is-asked (formOf (operationField (wordAt binary64 L place))) (r1Field (wordAt binary64 L place)) (operandField (wordAt binary64 L place))
-      ∙ (λ i. asked (sym (w .form) i) (sym (w .r1) i) (sym (w .rest) i))
+      ∙ (λ i. instructionFor (sym (w .form) i) (sym (w .r1) i) (sym (w .rest) i))
 
-  pub well-formed : RegistersIn (asked f r operand)
+  pub well-formed : RegistersIn (instructionFor f r operand)
   well-formed =
-      registers-in (length (L .operands)) (L .results) (asked f r operand)
+      registers-in (length (L .operands)) (L .results) (instructionFor f r operand)
       (rw decoded at (word-formed (length (L .operands)) (L .results) (wordAt binary64 L place) (w .accepted)))
 
-  issued : (m : Machine Float) → m .next ≡ place → issueNext binary64 L m ≡ issueOf binary64 m (asked f r operand)
+  issued : (m : Machine Float) → m .next ≡ place → issueNext binary64 L m ≡ issueOf binary64 m (instructionFor f r operand)
   issued m e = rw (e, lt-leb (length (L .words)) place (w .inList), eq-eqb _ 0 (w .accepted), decoded)
 
-  pub issue-goes : {bs : List Buffer} {ss : List Station} {ts : List StoreBuffer} {c : Change} → Issues bs ss ts (asked f r operand) c
+  pub issue-goes : {bs : List Buffer} {ss : List Station} {ts : List StoreBuffer} {c : Change} → Issues bs ss ts (instructionFor f r operand) c
       → IssuesNext place bs ss ts L c
   issue-goes {bs} {ss} {ts} h = record {
     is = λ rs. h .is place rs ∙ sym (issued (standing place rs bs ss ts) refl);
@@ -148,55 +148,55 @@ module _ {bs : List Buffer} {ss : List Station} {ts : List StoreBuffer} where
   }
 
   module _ (form : Form) (r x : ℕ) where
-    pub no-operation : form ≡ Unknown → Issues bs ss ts (asked form r x) (Refused 2)
-    no-operation e = issues (ap (λ (f : Form). asked f r x) e) refl (λ next rs. refl) (λ z. omega arith)
+    pub no-operation : form ≡ Unknown → Issues bs ss ts (instructionFor form r x) (Refused 2)
+    no-operation e = issues (ap (λ (f : Form). instructionFor f r x) e) refl (λ next rs. refl) (λ z. omega arith)
 
-    pub load-waits : {c : Change} → form ≡ LD → lowestBufferIn (map viewBuffer bs) ≡ none → c ≡ Refused 7 → Issues bs ss ts (asked form r x) c
-    load-waits e f q = issues (ap (λ (g : Form). asked g r x) e) q (λ next rs. load-by (standing next rs bs ss ts) r x f) (λ z. omega arith)
+    pub load-waits : {c : Change} → form ≡ LD → lowestBufferIn (map viewBuffer bs) ≡ none → c ≡ Refused 7 → Issues bs ss ts (instructionFor form r x) c
+    load-waits e f q = issues (ap (λ (g : Form). instructionFor g r x) e) q (λ next rs. load-by (standing next rs bs ss ts) r x f) (λ z. omega arith)
 
-    pub load-goes : form ≡ LD → RegistersIn (asked form r x) → {b : ℕ} → lowestBufferIn (map viewBuffer bs) ≡ some b
-        → Issues bs ss ts (asked form r x) (Loads r x b)
+    pub load-goes : form ≡ LD → RegistersIn (instructionFor form r x) → {b : ℕ} → lowestBufferIn (map viewBuffer bs) ≡ some b
+        → Issues bs ss ts (instructionFor form r x) (Loads r x b)
     load-goes e p f =
-        issues (ap (λ (g : Form). asked g r x) e) refl (λ next rs. load-by (standing next rs bs ss ts) r x f)
+        issues (ap (λ (g : Form). instructionFor g r x) e) refl (λ next rs. load-by (standing next rs bs ss ts) r x f)
         (rw e at p, buffer-below (standing 0 [] bs ss ts) f)
 
-    pub copy-goes : form ≡ LDR → RegistersIn (asked form r x) → {y : ℕ} → y ≡ indexOf x → Issues bs ss ts (asked form r x) (Copies r y)
-    copy-goes e p q = issues (ap (λ (g : Form). asked g r x) e) (ap (Copies r) q) (λ next rs. refl) (rw e at p)
+    pub copy-goes : form ≡ LDR → RegistersIn (instructionFor form r x) → {y : ℕ} → y ≡ indexOf x → Issues bs ss ts (instructionFor form r x) (Copies r y)
+    copy-goes e p q = issues (ap (λ (g : Form). instructionFor g r x) e) (ap (Copies r) q) (λ next rs. refl) (rw e at p)
 
     module _ {o : Operation} where
-      pub cell-waits-buffer : {c : Change} → form ≡ CellArithmetic o → lowestBufferIn (map viewBuffer bs) ≡ none → c ≡ Refused 7 → Issues bs ss ts (asked form r x) c
-      cell-waits-buffer e f q = issues (ap (λ (g : Form). asked g r x) e) q (λ next rs. cell-by (standing next rs bs ss ts) o r x f refl) (λ z. omega arith)
+      pub cell-waits-buffer : {c : Change} → form ≡ CellArithmetic o → lowestBufferIn (map viewBuffer bs) ≡ none → c ≡ Refused 7 → Issues bs ss ts (instructionFor form r x) c
+      cell-waits-buffer e f q = issues (ap (λ (g : Form). instructionFor g r x) e) q (λ next rs. cell-by (standing next rs bs ss ts) o r x f refl) (λ z. omega arith)
 
       pub cell-waits-station : {c : Change} → form ≡ CellArithmetic o → {b : ℕ} → lowestBufferIn (map viewBuffer bs) ≡ some b
-          → lowestStationIn (map viewStation ss) o ≡ none → c ≡ Refused 7 → Issues bs ss ts (asked form r x) c
-      cell-waits-station e f g q = issues (ap (λ (g : Form). asked g r x) e) q (λ next rs. cell-by (standing next rs bs ss ts) o r x f g) (λ z. omega arith)
+          → lowestStationIn (map viewStation ss) o ≡ none → c ≡ Refused 7 → Issues bs ss ts (instructionFor form r x) c
+      cell-waits-station e f g q = issues (ap (λ (g : Form). instructionFor g r x) e) q (λ next rs. cell-by (standing next rs bs ss ts) o r x f g) (λ z. omega arith)
 
-      pub cell-goes : form ≡ CellArithmetic o → RegistersIn (asked form r x) → {b s : ℕ} → lowestBufferIn (map viewBuffer bs) ≡ some b
-          → lowestStationIn (map viewStation ss) o ≡ some s → Issues bs ss ts (asked form r x) (TakesCell o r x b s)
+      pub cell-goes : form ≡ CellArithmetic o → RegistersIn (instructionFor form r x) → {b s : ℕ} → lowestBufferIn (map viewBuffer bs) ≡ some b
+          → lowestStationIn (map viewStation ss) o ≡ some s → Issues bs ss ts (instructionFor form r x) (TakesCell o r x b s)
       cell-goes e p f g =
-          issues (ap (λ (g : Form). asked g r x) e) refl (λ next rs. cell-by (standing next rs bs ss ts) o r x f g)
+          issues (ap (λ (g : Form). instructionFor g r x) e) refl (λ next rs. cell-by (standing next rs bs ss ts) o r x f g)
           (rw e at p, buffer-below (standing 0 [] bs ss ts) f, station-below (standing 0 [] bs ss ts) o g)
 
       pub register-waits : {c : Change} → form ≡ RegisterArithmetic o → lowestStationIn (map viewStation ss) o ≡ none → c ≡ Refused 7
-          → Issues bs ss ts (asked form r x) c
-      register-waits e f q = issues (ap (λ (g : Form). asked g r x) e) q (λ next rs. register-by (standing next rs bs ss ts) o r (indexOf x) f) (λ z. omega arith)
+          → Issues bs ss ts (instructionFor form r x) c
+      register-waits e f q = issues (ap (λ (g : Form). instructionFor g r x) e) q (λ next rs. register-by (standing next rs bs ss ts) o r (indexOf x) f) (λ z. omega arith)
 
-      pub register-goes : form ≡ RegisterArithmetic o → RegistersIn (asked form r x) → {s y : ℕ} → lowestStationIn (map viewStation ss) o ≡ some s
-          → y ≡ indexOf x → Issues bs ss ts (asked form r x) (TakesRegister o r y s)
+      pub register-goes : form ≡ RegisterArithmetic o → RegistersIn (instructionFor form r x) → {s y : ℕ} → lowestStationIn (map viewStation ss) o ≡ some s
+          → y ≡ indexOf x → Issues bs ss ts (instructionFor form r x) (TakesRegister o r y s)
       register-goes e p {s} f q =
           let w : (r < registerCount) × (indexOf x < registerCount) = rw e at p in
-          issues (ap (λ (g : Form). asked g r x) e) (ap (λ (y : ℕ). TakesRegister o r y s) q)
+          issues (ap (λ (g : Form). instructionFor g r x) e) (ap (λ (y : ℕ). TakesRegister o r y s) q)
           (λ next rs. register-by (standing next rs bs ss ts) o r (indexOf x) f) (w .0, w .1, station-below (standing 0 [] bs ss ts) o f)
 
-    pub store-twice : {c : Change} → form ≡ STD → cellLiveIn (map viewStore ts) x ≡ true → c ≡ Refused 7 → Issues bs ss ts (asked form r x) c
-    store-twice e f q = issues (ap (λ (g : Form). asked g r x) e) q (λ next rs. store-live (standing next rs bs ss ts) r x f) (λ z. omega arith)
+    pub store-twice : {c : Change} → form ≡ STD → cellLiveIn (map viewStore ts) x ≡ true → c ≡ Refused 7 → Issues bs ss ts (instructionFor form r x) c
+    store-twice e f q = issues (ap (λ (g : Form). instructionFor g r x) e) q (λ next rs. store-live (standing next rs bs ss ts) r x f) (λ z. omega arith)
 
     pub store-waits : {c : Change} → form ≡ STD → cellLiveIn (map viewStore ts) x ≡ false → lowestStoreIn (map viewStore ts) ≡ none → c ≡ Refused 7
-        → Issues bs ss ts (asked form r x) c
-    store-waits e l f q = issues (ap (λ (g : Form). asked g r x) e) q (λ next rs. store-by (standing next rs bs ss ts) r x l f) (λ z. omega arith)
+        → Issues bs ss ts (instructionFor form r x) c
+    store-waits e l f q = issues (ap (λ (g : Form). instructionFor g r x) e) q (λ next rs. store-by (standing next rs bs ss ts) r x l f) (λ z. omega arith)
 
-    pub store-goes : form ≡ STD → RegistersIn (asked form r x) → cellLiveIn (map viewStore ts) x ≡ false → {t : ℕ}
-        → lowestStoreIn (map viewStore ts) ≡ some t → Issues bs ss ts (asked form r x) (Stores r x t)
+    pub store-goes : form ≡ STD → RegistersIn (instructionFor form r x) → cellLiveIn (map viewStore ts) x ≡ false → {t : ℕ}
+        → lowestStoreIn (map viewStore ts) ≡ some t → Issues bs ss ts (instructionFor form r x) (Stores r x t)
     store-goes e p l f =
-        issues (ap (λ (g : Form). asked g r x) e) refl (λ next rs. store-by (standing next rs bs ss ts) r x l f)
+        issues (ap (λ (g : Form). instructionFor g r x) e) refl (λ next rs. store-by (standing next rs bs ss ts) r x l f)
         (rw e at p, store-below (standing 0 [] bs ss ts) f)

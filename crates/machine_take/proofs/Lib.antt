@@ -3,6 +3,6 @@ pub mod Changing
 pub mod Counted
 pub mod Determined
 pub mod Forwards
-pub mod Found
+pub mod ChangeFound
 pub mod Issued
 pub mod Takes

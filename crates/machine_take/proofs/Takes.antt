@@ -11,13 +11,13 @@ use lib.ListN.{length}
 use borrow.Author.Tests.{le-leb, lt-leb, ne-eqb}
 use Rattle.machine_take.proofs.Forwards.{moves-on}
 use Rattle.seven_bit.specs.SevenBits.{accepted, refused, numberAt}
-use Rattle.theory_machine.specs.Machine.{Lent, Machine, Shape, Released}
+use Rattle.theory_machine.specs.Machine.{Lent, Machine, Shape, Record}
 use Rattle.theory_machine.specs.Binary64.{binary64}
 use Rattle.theory_machine.specs.Issue.{taken}
 use Rattle.theory_machine.specs.Issue as issue
 use Rattle.theory_machine.specs.Steps.{perform}
 use Rattle.theory_machine.proofs.Order.{shape-performed}
-use Rattle.machine_take.specs.Taking.{Taken, stopped, byNumber, afterStep, takeFrom}
+use Rattle.machine_take.specs.Taking.{Taken, endedAt, byNumber, afterStep, takeFrom}
 
 module _ (L : Lent Float) (room : Bool) (schedule : List ℕ) (all : Taken) where
   -- the codes from here on make the whole, and there are turns enough for them
@@ -29,11 +29,11 @@ module _ (L : Lent Float) (room : Bool) (schedule : List ℕ) (all : Taken) wher
     pub rows : Shape m
 
   module _ {m : Machine Float} {steps place : ℕ} (h : Here m steps place) where
-    pub at-end : length schedule ≤ place → stopped m steps place 0 ≡ all
+    pub at-end : length schedule ≤ place → endedAt m steps place 0 ≡ all
     unfolding takeFrom
     at-end e = go (h .turns) (h .same)
       where
-        go : (k : ℕ) → takeFrom L room schedule k m steps place ≡ all → stopped m steps place 0 ≡ all
+        go : (k : ℕ) → takeFrom L room schedule k m steps place ≡ all → endedAt m steps place 0 ≡ all
         go zero q = q
         go (suc k) q = rw (le-leb (length schedule) place e) at q
 
@@ -41,13 +41,13 @@ module _ (L : Lent Float) (room : Bool) (schedule : List ℕ) (all : Taken) wher
       -- one turn more
       turn-on : (k : ℕ) → length schedule ≤ place + k → takeFrom L room schedule k m steps place ≡ all
           → (n : ℕ) × ((length schedule ≤ place + suc n)
-          × (byNumber (numberAt schedule place) (λ number. stopped m steps place number)
+          × (byNumber (numberAt schedule place) (λ number. endedAt m steps place number)
           (λ code next. afterStep L room schedule m steps place next (perform binary64 L m code) (λ m. takeFrom L room schedule n m (suc steps) next)) ≡ all))
       unfolding takeFrom
       turn-on zero f q = absurd (omega arith)
       turn-on (suc n) f q = (n, (f, rw (lt-leb (length schedule) place inside) at q))
 
-      pub number-stops : {number at : ℕ} → numberAt schedule place ≡ refused number at → stopped m steps place number ≡ all
+      pub number-stops : {number at : ℕ} → numberAt schedule place ≡ refused number at → endedAt m steps place number ≡ all
       number-stops e = rw e at (turn-on (h .turns) (h .enough) (h .same) .1 .1)
 
       module _ {code next : ℕ} (read : numberAt schedule place ≡ accepted code next) where
@@ -66,11 +66,11 @@ module _ (L : Lent Float) (room : Bool) (schedule : List ℕ) (all : Taken) wher
               rows = rw (← q) at (shape-performed binary64 L m (h .rows) code);
             }
 
-        pub step-stops : {number : ℕ} → (number ≡ 0 → ⊥) → issue.refused m number ≡ perform binary64 L m code → stopped m steps place number ≡ all
+        pub step-stops : {number : ℕ} → (number ≡ 0 → ⊥) → issue.refused m number ≡ perform binary64 L m code → endedAt m steps place number ≡ all
         step-stops {number} z q = rw (← q, ne-eqb number 0 z) at (after-step .1 .1)
 
-        module _ {n : Machine Float} {r : Released Float} (q : record { refusal = 0; machine = n; released = some r } ≡ perform binary64 L m code) where
-          pub full-stops : room ≡ false → stopped m steps place 11 ≡ all
+        module _ {n : Machine Float} {r : Record Float} (q : record { refusal = 0; machine = n; released = some r } ≡ perform binary64 L m code) where
+          pub full-stops : room ≡ false → endedAt m steps place 11 ≡ all
           full-stops e = rw (← q, e) at (after-step .1 .1)
 
           pub release-stops : room ≡ true → record { machine = n; steps = steps + 1; place = next; refusal = 0; released = some r } ≡ all

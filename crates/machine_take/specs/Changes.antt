@@ -86,13 +86,13 @@ pub record Changes (L : Lent Float) (m : Machine Float) (code : ℕ) (c : Change
 -- ISSUE
 
 -- which instruction, by the word's form: r is R1's index
-abbrev pub asked : Form → (r operand : ℕ) → Instruction
-asked Unknown r x = noInstruction
-asked LD r x = load r x
-asked LDR r x = copy r (indexOf x)
-asked (CellArithmetic o) r x = cellArithmetic o r x
-asked (RegisterArithmetic o) r x = registerArithmetic o r (indexOf x)
-asked STD r x = store r x
+abbrev pub instructionFor : Form → (r operand : ℕ) → Instruction
+instructionFor Unknown r x = noInstruction
+instructionFor LD r x = load r x
+instructionFor LDR r x = copy r (indexOf x)
+instructionFor (CellArithmetic o) r x = cellArithmetic o r x
+instructionFor (RegisterArithmetic o) r x = registerArithmetic o r (indexOf x)
+instructionFor STD r x = store r x
 
 -- its registers are among the four
 abbrev pub RegistersIn : Instruction → Type 0

@@ -7,7 +7,7 @@ use lib.Dec.{leb}
 use lib.Ieee.{Float}
 use lib.ListN.{length}
 use Rattle.seven_bit.specs.SevenBits.{Parsed, accepted, refused, numberAt}
-use Rattle.theory_machine.specs.Machine.{Lent, Machine, Released}
+use Rattle.theory_machine.specs.Machine.{Lent, Machine, Record}
 use Rattle.theory_machine.specs.Binary64.{binary64}
 use Rattle.theory_machine.specs.Issue.{Answer, isTaken}
 use Rattle.theory_machine.specs.Steps.{perform}
@@ -20,13 +20,13 @@ pub record Taken : Type 0 where
   pub steps : ℕ
   pub place : ℕ
   pub refusal : ℕ
-  pub released : Option (Released Float)
+  pub released : Option (Record Float)
 
 abbrev pub viewTaken : code.Taken → Taken
 viewTaken t = record { machine = view (t .machine); steps = t .steps; place = t .place; refusal = t .refusal; released = viewReleased (t .released) }
 
-abbrev pub stopped : Machine Float → (steps place refusal : ℕ) → Taken
-stopped m steps place number = record { machine = m; steps = steps; place = place; refusal = number; released = none }
+abbrev pub endedAt : Machine Float → (steps place refusal : ℕ) → Taken
+endedAt m steps place number = record { machine = m; steps = steps; place = place; refusal = number; released = none }
 
 -- a number of the schedule, read: its refusal, or a code and the place after it
 abbrev pub byNumber : {B : Type 0} → Parsed ℕ → ((refusal : ℕ) → B) → ((code next : ℕ) → B) → B
@@ -34,7 +34,7 @@ byNumber (refused number place) bad good = bad number
 byNumber (accepted code next) bad good = good code next
 
 -- what a step released
-abbrev pub byRelease : {B : Type 0} → Option (Released Float) → B → ((r : Released Float) → B) → B
+abbrev pub byRelease : {B : Type 0} → Option (Record Float) → B → ((r : Record Float) → B) → B
 byRelease none nothing one = nothing
 byRelease (some r) nothing one = one r
 
@@ -42,13 +42,13 @@ module _ (L : Lent Float) (room : Bool) (schedule : List ℕ) where
   -- an answer of a step: a refusal stops; so does a release, with 11 where there is no room for its record
   abbrev pub afterStep : Machine Float → (steps place next : ℕ) → Answer Float → (onward : Machine Float → Taken) → Taken
   afterStep m steps place next a onward =
-      cond (not (isTaken a)) (stopped m steps place (a .refusal))
+      cond (not (isTaken a)) (endedAt m steps place (a .refusal))
       (byRelease (a .released) (onward (a .machine))
-      (λ r. cond room (record { machine = a .machine; steps = suc steps; place = next; refusal = 0; released = some r }) (stopped m steps place 11)))
+      (λ r. cond room (record { machine = a .machine; steps = suc steps; place = next; refusal = 0; released = some r }) (endedAt m steps place 11)))
 
   unfoldable pub takeFrom : (turns : ℕ) → Machine Float → (steps place : ℕ) → Taken
-  takeFrom zero m steps place = stopped m steps place 0
+  takeFrom zero m steps place = endedAt m steps place 0
   takeFrom (suc k) m steps place =
-      cond (leb (length schedule) place) (stopped m steps place 0)
-      (byNumber (numberAt schedule place) (λ number. stopped m steps place number)
+      cond (leb (length schedule) place) (endedAt m steps place 0)
+      (byNumber (numberAt schedule place) (λ number. endedAt m steps place number)
       (λ code next. afterStep m steps place next (perform binary64 L m code) (λ n. takeFrom k n (suc steps) next)))

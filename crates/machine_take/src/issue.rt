@@ -1,7 +1,7 @@
 // Issue: which slots an instruction takes, "always using the lowest-numbered free one".
 use crate::change::Change;
 use crate::change::not_now;
-use machine_free::Found;
+use machine_free::FreeSlot;
 use machine_free::cell_live;
 use machine_free::lowest_buffer;
 use machine_free::lowest_station;
@@ -14,7 +14,7 @@ use words::Form;
 use words::refusal;
 ghost use mathlib.Core.Path.{_≡_};
 ghost use Rattle.machine_take.specs.Inside.{lentTo};
-ghost use Rattle.machine_take.specs.Changes.{asked, RegistersIn, Issues, IssuesNext};
+ghost use Rattle.machine_take.specs.Changes.{instructionFor, RegistersIn, Issues, IssuesNext};
 
 // By the word's form, R1's index and the operand.
 fn slots_for(
@@ -25,35 +25,35 @@ fn slots_for(
     ss: [Station; 5],
     ts: [StoreBuffer; 3],
 ) -> Change
-    requires { ⌜ RegistersIn (asked form r operand) ⌝ }
-    ensures { λ c. ⌜ Issues bs ss ts (asked form r operand) c ⌝ }
+    requires { ⌜ RegistersIn (instructionFor form r operand) ⌝ }
+    ensures { λ c. ⌜ Issues bs ss ts (instructionFor form r operand) c ⌝ }
 {
     let cell = operand as usize;
     match form {
         Form::Unknown => Change::Refused(refusal::OPERATION),
         Form::LD => match lowest_buffer(bs) {
-            Found::Nothing => not_now(),
-            Found::At(b) => Change::Loads(r, cell, b),
+            FreeSlot::Nothing => not_now(),
+            FreeSlot::At(b) => Change::Loads(r, cell, b),
         },
         Form::LDR => Change::Copies(r, Register::index_of(operand)),
         Form::CellArithmetic(o) => match lowest_buffer(bs) {
-            Found::Nothing => not_now(),
-            Found::At(b) => match lowest_station(ss, o) {
-                Found::Nothing => not_now(),
-                Found::At(s) => Change::TakesCell(o, r, cell, b, s),
+            FreeSlot::Nothing => not_now(),
+            FreeSlot::At(b) => match lowest_station(ss, o) {
+                FreeSlot::Nothing => not_now(),
+                FreeSlot::At(s) => Change::TakesCell(o, r, cell, b, s),
             },
         },
         Form::RegisterArithmetic(o) => match lowest_station(ss, o) {
-            Found::Nothing => not_now(),
-            Found::At(s) => Change::TakesRegister(o, r, Register::index_of(operand), s),
+            FreeSlot::Nothing => not_now(),
+            FreeSlot::At(s) => Change::TakesRegister(o, r, Register::index_of(operand), s),
         },
         Form::STD => {
             if cell_live(ts, cell) {
                 return not_now();
             }
             match lowest_store(ts) {
-                Found::Nothing => not_now(),
-                Found::At(t) => Change::Stores(r, cell, t),
+                FreeSlot::Nothing => not_now(),
+                FreeSlot::At(t) => Change::Stores(r, cell, t),
             }
         }
     }

@@ -3,8 +3,8 @@ use mathlib.Core.Path.{refl}
 use denote.Ref.{now}
 use Rattle.numbers.proofs.Determined.{Determines, DeterminesLent, one-answer}
 use Rattle.machine_parts.proofs.Exact.{view-exact}
-use Rattle.machine_words.proofs.row.number_at.Kinds as number-at-kinds
-use Rattle.machine_words.proofs.row.number_at.Reads as number-at-reads
+use Rattle.machine_words.proofs.row.number_or_zero.Kinds as number-or-zero-kinds
+use Rattle.machine_words.proofs.row.number_or_zero.Reads as number-or-zero-reads
 use Rattle.machine_words.proofs.row.put_number.Kinds as put-number-kinds
 use Rattle.machine_words.proofs.row.put_number.Reads as put-number-reads
 use Rattle.machine_words.proofs.row.put_words.Kinds as put-words-kinds
@@ -16,8 +16,8 @@ use Rattle.machine_words.proofs.spelling.put_machine.Reads as put-machi
 use Rattle.machine_words.proofs.spelling.put_taken.Kinds as put-taken-kinds
 use Rattle.machine_words.proofs.spelling.put_taken.Reads as put-taken-reads
 
-pub number-at-determined : Determines 1 number-at-kinds.ps number-at-kinds.r number-at-reads.Post
-number-at-determined κs a x y s t = one-answer
+pub number-or-zero-determined : Determines 1 number-or-zero-kinds.ps number-or-zero-kinds.r number-or-zero-reads.Post
+number-or-zero-determined κs a x y s t = one-answer
 
 pub machine-in-determined : Determines 1 machine-in-kinds.ps machine-in-kinds.r machine-in-reads.Post
 machine-in-determined κs a x y s t p q = view-exact x y (one-answer p q)

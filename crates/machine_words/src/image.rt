@@ -1,5 +1,5 @@
 // A machine read from its row of words (specs/Image.antt).
-use crate::row::word_at;
+use crate::row::word_or_zero;
 use machine_parts::parts::Buffer;
 use machine_parts::parts::BufferState;
 use machine_parts::parts::Fetch;
@@ -28,8 +28,8 @@ fn operand_at(row: &[u64], place: usize) -> Operand
     requires { ⌜ place + 2 ≤ imageLength ⌝ }
     ensures { λ r. ⌜ viewOperand r ≡ image.operandAt (now (row .entry)) place ⌝ }
 {
-    let value = word_at(row, place + 1);
-    if word_at(row, place) == 0 {
+    let value = word_or_zero(row, place + 1);
+    if word_or_zero(row, place) == 0 {
         return Operand::Number(numbers::number_of(value));
     }
     Operand::Waits(Tag((value % 256) as u8))
@@ -47,7 +47,7 @@ fn register_at(row: &[u64], place: usize) -> Register
 fn operation_at(row: &[u64], place: usize) -> Operation
     ensures { λ r. ⌜ r ≡ image.operationAt (now (row .entry)) place ⌝ }
 {
-    let word = word_at(row, place);
+    let word = word_or_zero(row, place);
     if word == 0 {
         return Operation::Add;
     }
@@ -65,8 +65,8 @@ fn held_at(row: &[u64], place: usize) -> Held
     ensures { λ r. ⌜ r ≡ image.heldAt (now (row .entry)) place ⌝ }
 {
     Held {
-        place: word_at(row, place) as usize,
-        number: numbers::number_of(word_at(row, place + 1)),
+        place: word_or_zero(row, place) as usize,
+        number: numbers::number_of(word_or_zero(row, place + 1)),
     }
 }
 
@@ -74,7 +74,7 @@ fn buffer_at(row: &[u64], place: usize) -> Buffer
     requires { ⌜ place + 3 ≤ imageLength ⌝ }
     ensures { λ r. ⌜ viewBuffer r ≡ image.bufferAt (now (row .entry)) place ⌝ }
 {
-    let state = word_at(row, place);
+    let state = word_or_zero(row, place);
     if state == 0 {
         return Buffer {
             state: BufferState::Free,
@@ -82,8 +82,8 @@ fn buffer_at(row: &[u64], place: usize) -> Buffer
     }
     if state == 1 {
         let fetch = Fetch {
-            place: word_at(row, place + 1) as usize,
-            cell: word_at(row, place + 2) as usize,
+            place: word_or_zero(row, place + 1) as usize,
+            cell: word_or_zero(row, place + 2) as usize,
         };
         return Buffer {
             state: BufferState::Waiting(fetch),
@@ -98,7 +98,7 @@ fn station_at(row: &[u64], place: usize) -> Station
     requires { ⌜ place + 7 ≤ imageLength ⌝ }
     ensures { λ r. ⌜ viewStation r ≡ image.stationAt (now (row .entry)) place ⌝ }
 {
-    let state = word_at(row, place);
+    let state = word_or_zero(row, place);
     if state == 0 {
         return Station {
             state: StationState::Free,
@@ -106,7 +106,7 @@ fn station_at(row: &[u64], place: usize) -> Station
     }
     if state == 1 {
         let work = Work {
-            place: word_at(row, place + 1) as usize,
+            place: word_or_zero(row, place + 1) as usize,
             operation: operation_at(row, place + 2),
             sink: operand_at(row, place + 3),
             source: operand_at(row, place + 5),
@@ -124,14 +124,14 @@ fn store_at(row: &[u64], place: usize) -> StoreBuffer
     requires { ⌜ place + 5 ≤ imageLength ⌝ }
     ensures { λ r. ⌜ viewStore r ≡ image.storeAt (now (row .entry)) place ⌝ }
 {
-    if word_at(row, place) == 0 {
+    if word_or_zero(row, place) == 0 {
         return StoreBuffer {
             state: StoreState::Free,
         };
     }
     let pending = Pending {
-        place: word_at(row, place + 1) as usize,
-        cell: word_at(row, place + 2) as usize,
+        place: word_or_zero(row, place + 1) as usize,
+        cell: word_or_zero(row, place + 2) as usize,
         operand: operand_at(row, place + 3),
     };
     StoreBuffer {
@@ -143,7 +143,7 @@ pub fn machine_in(row: &[u64]) -> Machine
     ensures { λ r. ⌜ view r ≡ machineIn (now (row .entry)) ⌝ }
 {
     Machine {
-        next: word_at(row, 0) as usize,
+        next: word_or_zero(row, 0) as usize,
         registers: [
             register_at(row, 1),
             register_at(row, 3),

@@ -4,7 +4,7 @@ ghost use lib.ListN.{set};
 ghost use lib.Seq.{sets};
 ghost use Rattle.machine_words.specs.Rows.{wordAt, numberAt};
 
-pub(crate) fn word_at(row: &[u64], place: usize) -> u64
+pub(crate) fn word_or_zero(row: &[u64], place: usize) -> u64
     ensures { λ r. ⌜ r ≡ wordAt (now (row .entry)) place ⌝ }
 {
     if place < row.len() {
@@ -13,7 +13,7 @@ pub(crate) fn word_at(row: &[u64], place: usize) -> u64
     0
 }
 
-pub fn number_at(row: &[f64], place: usize) -> f64
+pub fn number_or_zero(row: &[f64], place: usize) -> f64
     ensures { λ r. ⌜ r ≡ numberAt (now (row .entry)) place ⌝ }
 {
     if place < row.len() {

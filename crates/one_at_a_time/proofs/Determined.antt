@@ -5,16 +5,16 @@ use lib.Ieee.{Float}
 use denote.Ref.{now}
 use Rattle.numbers.proofs.Determined.{DeterminesLent, one-answer}
 use Rattle.theory_machine.specs.Entries as theory
-use Rattle.one_at_a_time.specs.declared.one_at_a_time.Ran.{Ran}
-use Rattle.one_at_a_time.specs.Answers.{viewRan}
+use Rattle.one_at_a_time.specs.declared.one_at_a_time.OneAtATime.{OneAtATime}
+use Rattle.one_at_a_time.specs.Answers.{viewOneAtATime}
 use Rattle.one_at_a_time.proofs.one_at_a_time.one_at_a_time.Kinds as one-at-a-time-kinds
 use Rattle.one_at_a_time.proofs.one_at_a_time.one_at_a_time.Reads as one-at-a-time-reads
 
-ran-exact : (x y : Ran) (cells others : List Float) → viewRan x cells ≡ viewRan y others → (x ≡ y) × (cells ≡ others)
-ran-exact x y cells others e = (
-  ap (λ (r : theory.Ran Float). record { registers = r .run .registers; refusal = r .refusal }) e,
-  ap (λ (r : theory.Ran Float). r .run .cells) e,
+answer-exact : (x y : OneAtATime) (cells others : List Float) → viewOneAtATime x cells ≡ viewOneAtATime y others → (x ≡ y) × (cells ≡ others)
+answer-exact x y cells others e = (
+  ap (λ (r : theory.OneAtATime Float). record { registers = r .run .registers; refusal = r .refusal }) e,
+  ap (λ (r : theory.OneAtATime Float). r .run .cells) e,
 )
 
 pub one-at-a-time-determined : DeterminesLent 3 one-at-a-time-kinds.ps one-at-a-time-kinds.r one-at-a-time-reads.Post (λ κs s. now (s .1 .1 .0))
-one-at-a-time-determined κs a x y s t p q = ran-exact x y (now (s .1 .1 .0)) (now (t .1 .1 .0)) (one-answer p q)
+one-at-a-time-determined κs a x y s t p q = answer-exact x y (now (s .1 .1 .0)) (now (t .1 .1 .0)) (one-answer p q)

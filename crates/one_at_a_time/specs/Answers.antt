@@ -3,11 +3,11 @@ use mathlib.Core.List.{List}
 use lib.Ieee.{Float}
 use Rattle.theory_machine.specs.OneAtATime.{Run}
 use Rattle.theory_machine.specs.Entries as theory
-use Rattle.one_at_a_time.specs.declared.one_at_a_time.Ran.{Ran}
+use Rattle.one_at_a_time.specs.declared.one_at_a_time.OneAtATime.{OneAtATime}
 
 abbrev pub at : (registers cells : List Float) → Run Float
 at registers cells = record { registers = registers; cells = cells }
 
 -- the registers with the result cells as the run leaves them
-abbrev pub viewRan : Ran → (cells : List Float) → theory.Ran Float
-viewRan r cells = record { refusal = r .refusal; run = at (r .registers) cells }
+abbrev pub viewOneAtATime : OneAtATime → (cells : List Float) → theory.OneAtATime Float
+viewOneAtATime r cells = record { refusal = r .refusal; run = at (r .registers) cells }

@@ -11,10 +11,10 @@ ghost use Rattle.theory_machine.specs.OneAtATime.{execute};
 ghost use Rattle.theory_machine.specs.Entries.{oneAtATime};
 ghost use Rattle.theory_machine.specs.Binary64.{binary64};
 ghost use Rattle.machine_parts.specs.View.{lent, cellsAlone};
-ghost use Rattle.one_at_a_time.specs.Answers.{at, viewRan};
+ghost use Rattle.one_at_a_time.specs.Answers.{at, viewOneAtATime};
 
 // The answer of a run: the registers, the start numbers when refused, and a refusal number of 01, 0 for accepted.
-pub struct Ran {
+pub struct OneAtATime {
     pub registers: [f64; 4],
     pub refusal: u32,
 }
@@ -54,12 +54,17 @@ fn execute(word: u32, registers: &mut [f64; 4], operands: &[f64], results: &mut 
 }
 
 // 01: refused, the start numbers are given back and nothing is written.
-pub fn one_at_a_time(words: &[u32], operands: &[f64], results: &mut [f64], starts: [f64; 4]) -> Ran
-    ensures { λ r. ⌜ viewRan r (now (results .exit)) ≡ oneAtATime binary64 (lent (now (words .entry)) (now (operands .entry)) (now (results .entry))) (at starts (now (results .entry))) ⌝ }
+pub fn one_at_a_time(
+    words: &[u32],
+    operands: &[f64],
+    results: &mut [f64],
+    starts: [f64; 4],
+) -> OneAtATime
+    ensures { λ r. ⌜ viewOneAtATime r (now (results .exit)) ≡ oneAtATime binary64 (lent (now (words .entry)) (now (operands .entry)) (now (results .entry))) (at starts (now (results .entry))) ⌝ }
 {
     let refused = words::check_list_against(words, operands.len(), results.len()).refusal;
     if refused != 0 {
-        return Ran {
+        return OneAtATime {
             registers: starts,
             refusal: refused,
         };
@@ -68,7 +73,7 @@ pub fn one_at_a_time(words: &[u32], operands: &[f64], results: &mut [f64], start
     for place in 0..words.len() {
         execute(words[place], &mut registers, operands, results);
     }
-    Ran {
+    OneAtATime {
         registers,
         refusal: refusal::ACCEPTED,
     }

@@ -1,21 +1,21 @@
 // The report program of document 01. It is given three names: list, operands and schedule. Names after the third are ignored.
 use libc::STDOUT_FILENO;
-use report_text::Found;
+use report_text::FilesFound;
 use report_text::report::PAGE;
 use report_text::report::report;
 ghost use Prim.Native.Nat.{_≤_};
 ghost use lib.ListN.{length};
 
 // What was read of a file: whether it was named, opened and read to its end or to the buffer's, and how many bytes.
-struct Taken {
+struct FileRead {
     found: bool,
     size: usize,
 }
 
-fn missing() -> Taken
+fn missing() -> FileRead
     ensures { λ r. ⌜ r .size ≤ 0 ⌝ }
 {
-    Taken {
+    FileRead {
         found: false,
         size: 0,
     }
@@ -27,7 +27,7 @@ fn fails(fd: i32) -> bool {
     libc::read(fd, &mut byte) < 0
 }
 
-fn read_opened(fd: i32, bytes: &mut [u8]) -> Taken
+fn read_opened(fd: i32, bytes: &mut [u8]) -> FileRead
     ensures { λ r. ⌜ r .size ≤ length (now (bytes .entry)) ⌝ }
 {
     let size = io::read_full(fd, bytes);
@@ -36,11 +36,11 @@ fn read_opened(fd: i32, bytes: &mut [u8]) -> Taken
             return missing();
         }
     }
-    Taken { found: true, size }
+    FileRead { found: true, size }
 }
 
 // The file that the program's argument i names.
-fn read_named(i: usize, bytes: &mut [u8]) -> Taken
+fn read_named(i: usize, bytes: &mut [u8]) -> FileRead
     ensures { λ r. ⌜ r .size ≤ length (now (bytes .entry)) ⌝ }
 {
     if os::arg_count() <= i {
@@ -69,7 +69,7 @@ fn print_report(list: &mut [u8], operands: &mut [u8], schedule: &mut [u8], out: 
     let first = read_named(1, list);
     let second = read_named(2, operands);
     let third = read_named(3, schedule);
-    let named = Found {
+    let named = FilesFound {
         list: first.found,
         operands: second.found,
         schedule: third.found,

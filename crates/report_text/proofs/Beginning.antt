@@ -10,7 +10,7 @@ use lib.ListN.{length, take, drop}
 use lib.Seq.{sets, take-append-seam}
 use borrow.Author.Tests.{ltb-false, eq-eqb, ne-eqb}
 use Rattle.words.specs.declared.Verdict.{Verdict}
-use Rattle.list_file.specs.declared.Read.{Read}
+use Rattle.list_file.specs.declared.ListRead.{ListRead}
 use Rattle.seven_bit.specs.SevenBits.{Parsed, accepted, refused}
 use Rattle.list_file.specs.Reading.{fieldAt, wordsAt, countRefusal, listIn, answered, readAnswer, readWords}
 use Rattle.list_file.proofs.Inverse.{field-of, then-of}
@@ -82,7 +82,7 @@ module _ (bytes : List ℕ) (found : Bool) (buffer : List ℕ) where
     pub list-long : 65536 < length bytes → ListIs found bytes buffer (Refused 11 65536) 0
     list-long h = record { is = fault-long bytes found listFault is h; words = not-none (Refused 11 65536) refl; few = omega arith }
 
-    module _ (short : length bytes ≤ 65536) (words : List ℕ) (room : length words ≡ 4096) (answer : Read) (a : answer ≡ readAnswer bytes words) where
+    module _ (short : length bytes ≤ 65536) (words : List ℕ) (room : length words ≡ 4096) (answer : ListRead) (a : answer ≡ readAnswer bytes words) where
       pub list-refused : (answer .refusal ≡ 0 → ⊥) → ListIs found bytes buffer (Refused (answer .refusal) (answer .place)) 0
       list-refused f =
           let b : answer ≡ answered (listIn 4096 bytes) = rw room at a in

@@ -5,5 +5,5 @@ pub mod Joining
 pub mod FileFaults
 pub mod Beginning
 pub mod Stages
-pub mod Told
+pub mod ToldRun
 pub mod Determined

@@ -14,15 +14,15 @@ use Rattle.theory_report.specs.declared.Fault.{Fault}
 use Rattle.theory_report.specs.declared.Fault.the-variants.{Nothing}
 use Rattle.theory_report.specs.Words as word
 use Rattle.theory_report.specs.Operands.{operandsIn}
-use Rattle.theory_report.specs.Report.{isFault, orStopped, fileFault, listFault, operandsFault, scheduleFault, wordsIn, lentBy, areasFault, verdictFault, runOf, ranText, reportText}
-use Rattle.report_text.specs.declared.Found.{Found}
+use Rattle.theory_report.specs.Report.{isFault, orStopped, fileFault, listFault, operandsFault, scheduleFault, wordsIn, lentOfFiles, areasFault, verdictFault, runOf, ranText, reportText}
+use Rattle.report_text.specs.declared.FilesFound.{FilesFound}
 use Rattle.report_text.specs.declared.begin.Name.{Name}
 use Rattle.report_text.specs.declared.begin.Name.the-variants as name
 use Rattle.report_text.specs.declared.begin.Begun.{Begun}
-use Rattle.report_text.specs.Files.{lentTo, given, nameText, textOf, Begins}
+use Rattle.report_text.specs.Files.{reportLent, given, nameText, textOf, Begins}
 use Rattle.report_text.proofs.Beginning.{only-line, not-none, was-found, few-bytes, front-numbers}
 
-module _ (found : Found) (list operands schedule : List ℕ) where
+module _ (found : FilesFound) (list operands schedule : List ℕ) where
   abbrev first : Fault
   first = fileFault (given (found .list) list) listFault
 
@@ -33,7 +33,7 @@ module _ (found : Found) (list operands schedule : List ℕ) where
   third = fileFault (given (found .schedule) schedule) scheduleFault
 
   abbrev further : List ℕ
-  further = ranText (lentBy list operands) (runOf (lentBy list operands) schedule)
+  further = ranText (lentOfFiles list operands) (runOf (lentOfFiles list operands) schedule)
 
   -- a report that stops: its text is the stop line, and nothing else is promised
   stops : (n : Name) (fault : Fault) → isFault fault ≡ true → textOf found list operands schedule ≡ orStopped fault (nameText n) further
@@ -66,7 +66,7 @@ module _ (found : Found) (list operands schedule : List ℕ) where
 
       module _ (three : third ≡ Nothing) where
         -- all three files are found good
-        all-good : textOf found list operands schedule ≡ orStopped (areasFault (lentBy list operands)) word.areas further
+        all-good : textOf found list operands schedule ≡ orStopped (areasFault (lentOfFiles list operands)) word.areas further
         unfolding reportText
         all-good =
             let a = was-found (found .list) list listFault one in
@@ -81,7 +81,7 @@ module _ (found : Found) (list operands schedule : List ℕ) where
             → Begins found list operands schedule buffer cells (record { name = name.Areas; fault = fault; words = count; operands = numbers })
         begun {buffer} cells₀ {cells} {count} {numbers} {fault} w n r k e f =
             let front = front-numbers operands cells₀ (few-bytes (found .operands) operands two) r k e in
-            let same : fault ≡ areasFault (lentBy list operands) = f ∙ rw (w, k) in
+            let same : fault ≡ areasFault (lentOfFiles list operands) = f ∙ rw (w, k) in
             record {
               text = all-good ∙ rw (← same);
               words = λ z. w;
@@ -91,18 +91,18 @@ module _ (found : Found) (list operands schedule : List ℕ) where
             }
 
 -- what the beginning says of the report's text
-module _ (found : Found) (list operands schedule : List ℕ) {buffer : List ℕ} {cells : List Float} {b : Begun}
+module _ (found : FilesFound) (list operands schedule : List ℕ) {buffer : List ℕ} {cells : List Float} {b : Begun}
     (s : Begins found list operands schedule buffer cells b) where
   pub stop-text : isFault (b .fault) ≡ true → textOf found list operands schedule ≡ orStopped (b .fault) (nameText (b .name)) []
   stop-text e = s .text ∙ only-line (b .fault) (nameText (b .name)) _ [] e
 
   module _ (n : b .fault ≡ Nothing) where
-    same-lent : lentBy list operands ≡ lentTo (take (b .words) buffer) (take (b .operands) cells)
+    same-lent : lentOfFiles list operands ≡ reportLent (take (b .words) buffer) (take (b .operands) cells)
     same-lent = rw (s .words n, s .numbers n)
 
     pub run-text : textOf found list operands schedule
-        ≡ ranText (lentTo (take (b .words) buffer) (take (b .operands) cells)) (runOf (lentTo (take (b .words) buffer) (take (b .operands) cells)) schedule)
+        ≡ ranText (reportLent (take (b .words) buffer) (take (b .operands) cells)) (runOf (reportLent (take (b .words) buffer) (take (b .operands) cells)) schedule)
     run-text =
         s .text
-        ∙ ap (λ (f : Fault). orStopped f (nameText (b .name)) (ranText (lentBy list operands) (runOf (lentBy list operands) schedule))) n
+        ∙ ap (λ (f : Fault). orStopped f (nameText (b .name)) (ranText (lentOfFiles list operands) (runOf (lentOfFiles list operands) schedule))) n
         ∙ ap (λ (L : Lent Float). ranText L (runOf L schedule)) same-lent

@@ -13,15 +13,15 @@ use Rattle.theory_report.specs.declared.Fault.{Fault}
 use Rattle.theory_report.specs.declared.Fault.the-variants.{Nothing}
 use Rattle.theory_report.specs.Words as word
 use Rattle.theory_report.specs.Operands.{operandsIn}
-use Rattle.theory_report.specs.Report.{fileFault, listFault, orStopped, wordsIn, lentBy, runOf, ranText, reportText}
-use Rattle.report_text.specs.declared.Found.{Found}
+use Rattle.theory_report.specs.Report.{fileFault, listFault, orStopped, wordsIn, lentOfFiles, runOf, ranText, reportText}
+use Rattle.report_text.specs.declared.FilesFound.{FilesFound}
 use Rattle.report_text.specs.declared.begin.Name.{Name}
 use Rattle.report_text.specs.declared.begin.Name.the-variants as name
 use Rattle.report_text.specs.declared.begin.Begun.{Begun}
 
 -- what is lent to a report's run: the list, the operand cells, "256 result cells"
-abbrev pub lentTo : (words : List ℕ) (operands : List Float) → Lent Float
-lentTo words operands = record { words = words; operands = operands; results = cellLimit }
+abbrev pub reportLent : (words : List ℕ) (operands : List Float) → Lent Float
+reportLent words operands = record { words = words; operands = operands; results = cellLimit }
 
 -- a file: its bytes, and whether it was named and opened
 abbrev pub given : (found : Bool) → List ℕ → Option (List ℕ)
@@ -42,13 +42,13 @@ pub record ListIs (found : Bool) (bytes buffer : List ℕ) (fault : Fault) (coun
 
 -- WHERE A REPORT BEGINS: its text is the stop line of the fault found; without a fault it is that of the run, the list stands at the front of
 -- the word buffer, and the operands stand at the front of the cells
-module _ (found : Found) (list operands schedule : List ℕ) where
+module _ (found : FilesFound) (list operands schedule : List ℕ) where
   abbrev pub textOf : List ℕ
   textOf = reportText (given (found .list) list) (given (found .operands) operands) (given (found .schedule) schedule)
 
   pub record Begins (buffer : List ℕ) (cells : List Float) (b : Begun) : Type 0 where
-    pub text : textOf ≡ orStopped (b .fault) (nameText (b .name)) (ranText (lentBy list operands) (runOf (lentBy list operands) schedule))
-    pub words : b .fault ≡ Nothing → take (b .words) buffer ≡ lentBy list operands .words
+    pub text : textOf ≡ orStopped (b .fault) (nameText (b .name)) (ranText (lentOfFiles list operands) (runOf (lentOfFiles list operands) schedule))
+    pub words : b .fault ≡ Nothing → take (b .words) buffer ≡ lentOfFiles list operands .words
     pub numbers : b .fault ≡ Nothing → take (b .operands) cells ≡ operandsIn operands
     pub fewWords : b .words ≤ listLimit
     pub fewNumbers : b .operands ≤ cellLimit

@@ -1,5 +1,5 @@
 // What a report begins with: the list and the operands read, and the first fault of all (01, "The report program").
-use crate::Found;
+use crate::FilesFound;
 use crate::faults::FILE_LIMIT;
 use crate::faults::operands_fault;
 use crate::faults::schedule_fault;
@@ -25,7 +25,7 @@ pub enum Name {
 }
 
 // The list as read: its fault, and how many words.
-pub struct ListRead {
+pub struct ListFound {
     pub fault: Fault,
     pub count: usize,
 }
@@ -49,30 +49,30 @@ pub(crate) fn stops(fault: Fault) -> bool
 }
 
 // Missing, then 11, then what the reader says.
-fn read_list(bytes: &[u8], found: bool, words: &mut [u32]) -> ListRead
+fn read_list(bytes: &[u8], found: bool, words: &mut [u32]) -> ListFound
     requires { ⌜ length (now words) ≡ 4096 ⌝ }
     ensures { λ r. ⌜ ListIs found (now (bytes .entry)) (now (words .exit)) (r .fault) (r .count) ⌝ }
 {
     if !found {
-        return ListRead {
+        return ListFound {
             fault: Fault::Missing,
             count: 0,
         };
     }
     if FILE_LIMIT < bytes.len() {
-        return ListRead {
+        return ListFound {
             fault: Fault::Refused(refusal::ROOM, FILE_LIMIT),
             count: 0,
         };
     }
     let list = read(bytes, words);
     if list.refusal != 0 {
-        return ListRead {
+        return ListFound {
             fault: Fault::Refused(list.refusal, list.place),
             count: 0,
         };
     }
-    ListRead {
+    ListFound {
         fault: Fault::Nothing,
         count: list.count,
     }
@@ -89,7 +89,7 @@ fn areas_fault(words: &[u32], operands: usize) -> Fault
     Fault::Refused(verdict.refusal, verdict.place)
 }
 
-fn stopped(name: Name, fault: Fault) -> Begun
+fn at_fault(name: Name, fault: Fault) -> Begun
     ensures { λ r. ⌜ r ≡ record { name = name; fault = fault; words = 0; operands = 0 } ⌝ }
 {
     Begun {
@@ -102,7 +102,7 @@ fn stopped(name: Name, fault: Fault) -> Begun
 
 // The files in 01's order, then the list against its areas.
 pub(crate) fn begin(
-    named: Found,
+    named: FilesFound,
     list: &[u8],
     operands: &[u8],
     schedule: &[u8],
@@ -115,15 +115,15 @@ pub(crate) fn begin(
     let found = read_list(list, named.list, words);
     let fault = found.fault;
     if stops(fault) {
-        return stopped(Name::List, fault);
+        return at_fault(Name::List, fault);
     }
     let second = operands_fault(operands, named.operands);
     if stops(second) {
-        return stopped(Name::Operands, second);
+        return at_fault(Name::Operands, second);
     }
     let third = schedule_fault(schedule, named.schedule);
     if stops(third) {
-        return stopped(Name::Schedule, third);
+        return at_fault(Name::Schedule, third);
     }
     let numbers = read_operands(operands, cells);
     let count = found.count;

@@ -4,12 +4,12 @@ mod faults;
 mod operands;
 mod page;
 mod put;
-mod ran;
 pub mod report;
 mod stop;
+mod told;
 
 // Whether each file was named and opened.
-pub struct Found {
+pub struct FilesFound {
     pub list: bool,
     pub operands: bool,
     pub schedule: bool,

@@ -1,16 +1,22 @@
 // The report program's text (01, "The report program"), from the bytes of its three files.
-use crate::Found;
+use crate::FilesFound;
 use crate::begin::begin;
 use crate::begin::stops;
-use crate::ran::ran;
 use crate::stop::put_stop;
+use crate::told::told_run;
 ghost use Rattle.report_text.specs.Put.{Printed};
 ghost use Rattle.report_text.specs.Files.{textOf};
 
 // Bytes that are enough for every report.
 pub const PAGE: usize = 131072;
 
-pub fn report(named: Found, list: &[u8], operands: &[u8], schedule: &[u8], out: &mut [u8]) -> usize
+pub fn report(
+    named: FilesFound,
+    list: &[u8],
+    operands: &[u8],
+    schedule: &[u8],
+    out: &mut [u8],
+) -> usize
     ensures { λ r. ⌜ Printed (now (out .entry)) (now (out .exit)) r (textOf named (now (list .entry)) (now (operands .entry)) (now (schedule .entry))) ⌝ }
 {
     if out.len() < PAGE {
@@ -26,5 +32,5 @@ pub fn report(named: Found, list: &[u8], operands: &[u8], schedule: &[u8], out: 
     }
     let count = begun.words;
     let numbers = begun.operands;
-    ran(out, &words[..count], &cells[..numbers], schedule)
+    told_run(out, &words[..count], &cells[..numbers], schedule)
 }

@@ -106,7 +106,7 @@ fn wide(byte: u8) -> u32 {
     byte as u32
 }
 
-fn word_at(bytes: &[u8], at: usize) -> u32
+fn hex_word(bytes: &[u8], at: usize) -> u32
     requires { ⌜ at + 3 < length (now bytes) ⌝ }
 {
     (wide(bytes[at]) << 24)
@@ -125,7 +125,7 @@ fn words_of(bytes: &[u8], list: &mut [u32]) -> usize
         if whole <= count {
             return count;
         }
-        list[count] = word_at(bytes, 4 * count);
+        list[count] = hex_word(bytes, 4 * count);
         count += 1;
     }
     count

@@ -1,6 +1,6 @@
 // Changes that a session makes to its fresh machine: any slot, damaged as it likes.
-use crate::scan::number_at;
 use crate::scan::quarters;
+use crate::scan::scan_number;
 use machine_parts::parts::Buffer;
 use machine_parts::parts::BufferState;
 use machine_parts::parts::Fetch;
@@ -44,7 +44,7 @@ fn nine_at(bytes: &[u8], start: usize, nine: &mut [usize]) -> usize {
     let mut at = start;
     let mut i = 0;
     while i < nine.len() {
-        let found = number_at(bytes, at);
+        let found = scan_number(bytes, at);
         nine[i] = found.value;
         at = found.at;
         i += 1;
@@ -140,7 +140,7 @@ fn change(s: Standing, bytes: &[u8]) -> Standing {
 
 // A count and so many changes, at most as many as there are bytes.
 pub(crate) fn changes(s: Standing, bytes: &[u8]) -> Standing {
-    let counted = number_at(bytes, s.at);
+    let counted = scan_number(bytes, s.at);
     let count = counted.value;
     let m = s.machine;
     let mut now = Standing {

@@ -3,7 +3,7 @@ ghost use Prim.Native.Nat.{_≤_, _<_};
 ghost use lib.ListN.{length};
 
 // A number and the place after it; 0 after the last.
-pub(crate) struct Found {
+pub(crate) struct Scanned {
     pub value: usize,
     pub at: usize,
 }
@@ -32,7 +32,7 @@ fn digit_at(bytes: &[u8], start: usize) -> usize {
     at
 }
 
-pub(crate) fn number_at(bytes: &[u8], start: usize) -> Found
+pub(crate) fn scan_number(bytes: &[u8], start: usize) -> Scanned
     ensures { λ r. ⌜ r .value < 10000000000 ⌝ }
 {
     let mut at = digit_at(bytes, start);
@@ -40,15 +40,15 @@ pub(crate) fn number_at(bytes: &[u8], start: usize) -> Found
     while at < bytes.len() {
         let d = digit(bytes[at]);
         if 10 <= d {
-            return Found { value, at };
+            return Scanned { value, at };
         }
         if 100000000 <= value {
-            return Found { value, at };
+            return Scanned { value, at };
         }
         value = value * 10 + d;
         at += 1;
     }
-    Found { value, at }
+    Scanned { value, at }
 }
 
 // A number of the machine, in quarters.
@@ -57,31 +57,31 @@ pub(crate) fn quarters(value: usize) -> f64 {
 }
 
 // A count and so many numbers; no more than there is room for.
-pub(crate) fn row_at(bytes: &[u8], start: usize, row: &mut [f64]) -> Found
+pub(crate) fn row_at(bytes: &[u8], start: usize, row: &mut [f64]) -> Scanned
     ensures { λ r. ⌜ r .value ≤ length (now (row .entry)) ⌝ }
 {
-    let counted = number_at(bytes, start);
+    let counted = scan_number(bytes, start);
     let mut at = counted.at;
     let count = counted.value;
     let mut i = 0;
     while i < row.len() {
         if count <= i {
-            return Found { value: i, at };
+            return Scanned { value: i, at };
         }
-        let found = number_at(bytes, at);
+        let found = scan_number(bytes, at);
         at = found.at;
         row[i] = quarters(found.value);
         i += 1;
     }
-    Found { value: i, at }
+    Scanned { value: i, at }
 }
 
 // A count and so many words; above 16 one word, so many times.
-pub(crate) fn words_at(bytes: &[u8], start: usize, words: &mut [u32]) -> Found
+pub(crate) fn words_at(bytes: &[u8], start: usize, words: &mut [u32]) -> Scanned
     ensures { λ r. ⌜ r .value ≤ length (now (words .entry)) ⌝ }
 {
-    let counted = number_at(bytes, start);
-    let mut found = Found {
+    let counted = scan_number(bytes, start);
+    let mut found = Scanned {
         value: 0,
         at: counted.at,
     };
@@ -89,28 +89,28 @@ pub(crate) fn words_at(bytes: &[u8], start: usize, words: &mut [u32]) -> Found
     let mut i = 0;
     while i < words.len() {
         if count <= i {
-            return Found {
+            return Scanned {
                 value: i,
                 at: found.at,
             };
         }
-        found = word_at(bytes, found, count, i);
+        found = scan_word(bytes, found, count, i);
         words[i] = (found.value % 4294967296) as u32;
         i += 1;
     }
-    Found {
+    Scanned {
         value: i,
         at: found.at,
     }
 }
 
 // The next word, or the same again.
-fn word_at(bytes: &[u8], last: Found, count: usize, i: usize) -> Found {
+fn scan_word(bytes: &[u8], last: Scanned, count: usize, i: usize) -> Scanned {
     if count <= 16 {
-        return number_at(bytes, last.at);
+        return scan_number(bytes, last.at);
     }
     if i == 0 {
-        return number_at(bytes, last.at);
+        return scan_number(bytes, last.at);
     }
     last
 }

@@ -6,9 +6,9 @@ use crate::say::pattern;
 use crate::say::register;
 use crate::say::row;
 use crate::say::text;
-use crate::scan::number_at;
 use crate::scan::quarters;
 use crate::scan::row_at;
+use crate::scan::scan_number;
 use crate::scan::words_at;
 use good_order::good_order;
 use machine_parts::parts::Machine;
@@ -43,7 +43,7 @@ fn one_code(
     operands: &[f64],
     results: &mut [f64],
 ) -> Standing {
-    let found = number_at(bytes, s.at);
+    let found = scan_number(bytes, s.at);
     let code = (found.value % 4294967296) as u32;
     let m = s.machine;
     let stepped = step(m, words, operands, results, code);
@@ -67,7 +67,7 @@ fn codes(
     operands: &[f64],
     results: &mut [f64],
 ) -> Standing {
-    let counted = number_at(bytes, start.at);
+    let counted = scan_number(bytes, start.at);
     let count = counted.value;
     let m = start.machine;
     let mut now = Standing {
@@ -149,10 +149,10 @@ fn run(
     results: &mut [f64],
     cells: &mut [f64],
 ) {
-    let a = number_at(bytes, start);
-    let b = number_at(bytes, a.at);
-    let c = number_at(bytes, b.at);
-    let d = number_at(bytes, c.at);
+    let a = scan_number(bytes, start);
+    let b = scan_number(bytes, a.at);
+    let c = scan_number(bytes, b.at);
+    let d = scan_number(bytes, c.at);
     let starts = [
         quarters(a.value),
         quarters(b.value),
@@ -185,7 +185,7 @@ pub(crate) fn session(bytes: &[u8]) {
     let mut cells = [0.0f64; 16];
     let w = words_at(bytes, 0, &mut words);
     let o = row_at(bytes, w.at, &mut operands);
-    let r = number_at(bytes, o.at);
+    let r = scan_number(bytes, o.at);
     let count = w.value;
     let have = o.value;
     let room = r.value;

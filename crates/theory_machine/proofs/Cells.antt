@@ -28,13 +28,13 @@ use Rattle.theory_machine.proofs.Right.{at, sinkNumber, right, laws, wi
 module _ (K : Kind) (L : Lent (K .Num)) (start : Run (K .Num)) where
   -- RESULT CELLS
 
-  abbrev pub ran : (n c : ℕ) → K .Num
-  ran n c = getD (at K L start n .cells) c (K .nought)
+  abbrev pub cellAt : (n c : ℕ) → K .Num
+  cellAt n c = getD (at K L start n .cells) c (K .nought)
 
   -- a live store's cell already has, in the run, the number that it will write
   abbrev pub Pending : (n : ℕ) → StoreBuffer (K .Num) → Type 0
   Pending n freeStore = Unit
-  Pending n (live p c x) = ran n c ≡ sinkNumber K L start p
+  Pending n (live p c x) = cellAt n c ≡ sinkNumber K L start p
 
   abbrev pub NoStore : List (StoreBuffer (K .Num)) → (c : ℕ) → Type 0
   NoStore ts c = (i : ℕ) → storeCell (getD ts i freeStore) ≢ some c
@@ -42,7 +42,7 @@ module _ (K : Kind) (L : Lent (K .Num)) (start : Run (K .Num)) where
   pub record Right (m : Machine (K .Num)) (cells : List (K .Num)) : Type 0 where
     pub inv : Inv K (right K L start (m .next)) m
     pub pending : (i : ℕ) → Pending (m .next) (storeAt m i)
-    pub settled : (c : ℕ) → NoStore (m .stores) c → getD cells c (K .nought) ≡ ran (m .next) c
+    pub settled : (c : ℕ) → NoStore (m .stores) c → getD cells c (K .nought) ≡ cellAt (m .next) c
     pub width : length cells ≡ L .results
 
   module _ (four : length (start .registers) ≡ registerCount) (lent : length (start .cells) ≡ L .results)
@@ -50,8 +50,8 @@ module _ (K : Kind) (L : Lent (K .Num)) (start : Run (K .Num)) where
     abbrev q : ℕ
     q = m .next
 
-    ran-same : at K L start (suc q) .cells ≡ at K L start q .cells → (c : ℕ) → ran (suc q) c ≡ ran q c
-    ran-same k c = ap (λ (l : List (K .Num)). getD l c (K .nought)) k
+    cell-same : at K L start (suc q) .cells ≡ at K L start q .cells → (c : ℕ) → cellAt (suc q) c ≡ cellAt q c
+    cell-same k c = ap (λ (l : List (K .Num)). getD l c (K .nought)) k
 
     -- an issue that stores nothing leaves the run's cells
     quiet-issue : (rs : List (Operand (K .Num))) (bs : List (Buffer (K .Num))) (ss : List (Station (K .Num))) → at K L start (suc q) .cells ≡ at K L start q .cells
@@ -59,13 +59,13 @@ module _ (K : Kind) (L : Lent (K .Num)) (start : Run (K .Num)) where
     quiet-issue rs bs ss k I = record {
       inv = I;
       pending = λ i. one (storeAt m i) (R .pending i);
-      settled = λ c h. R .settled c h ∙ sym (ran-same k c);
+      settled = λ c h. R .settled c h ∙ sym (cell-same k c);
       width = R .width;
     }
       where
         one : (s : StoreBuffer (K .Num)) → Pending q s → Pending (suc q) s
         one freeStore h = h
-        one (live p c x) h = ran-same k c ∙ h
+        one (live p c x) h = cell-same k c ∙ h
 
     -- the run stores v in cell c, and store buffer t takes the store
     store-issue : (r c b s t : ℕ) → instructionAt K L q ≡ store r c → c < L .results → Room m (store r c) b s t
@@ -73,9 +73,9 @@ module _ (K : Kind) (L : Lent (K .Num)) (start : Run (K .Num)) where
     store-issue r c b s t e h w I = record {
       inv = I;
       pending = set-all (λ j s. Pending (suc q) s) freeStore (m .stores) t new
-          (λ j. old (storeAt m j) (no-store m S c (w .1 .2) j) (R .pending j)) (ran-c ∙ rw e);
+          (λ j. old (storeAt m j) (no-store m S c (w .1 .2) j) (R .pending j)) (cell-c ∙ rw e);
       settled = λ d k. R .settled d (was d k)
-          ∙ ran-other d (λ (z : d ≡ c). k t (ap storeCell (getD-set-same (m .stores) t new freeStore (omega (arith, w .1 .0, S))) ∙ rw z));
+          ∙ cell-other d (λ (z : d ≡ c). k t (ap storeCell (getD-set-same (m .stores) t new freeStore (omega (arith, w .1 .0, S))) ∙ rw z));
       width = R .width;
     }
       where
@@ -85,15 +85,15 @@ module _ (K : Kind) (L : Lent (K .Num)) (start : Run (K .Num)) where
         new : StoreBuffer (K .Num)
         new = live q c (registerAt K m r)
 
-        ran-c : ran (suc q) c ≡ v
-        ran-c = rw e (getD-set-same (at K L start q .cells) c v (K .nought) (omega (arith, cells-kept K L start q)))
+        cell-c : cellAt (suc q) c ≡ v
+        cell-c = rw e (getD-set-same (at K L start q .cells) c v (K .nought) (omega (arith, cells-kept K L start q)))
 
-        ran-other : (d : ℕ) → d ≢ c → ran q d ≡ ran (suc q) d
-        ran-other d z = rw e (sym (getD-set-other (at K L start q .cells) c d v (K .nought) z))
+        cell-other : (d : ℕ) → d ≢ c → cellAt q d ≡ cellAt (suc q) d
+        cell-other d z = rw e (sym (getD-set-other (at K L start q .cells) c d v (K .nought) z))
 
         old : (s : StoreBuffer (K .Num)) → storeCell s ≢ some c → Pending q s → Pending (suc q) s
         old freeStore z k = k
-        old (live p d x) z k = sym (ran-other d (λ (y : d ≡ c). z (rw y))) ∙ k
+        old (live p d x) z k = sym (cell-other d (λ (y : d ≡ c). z (rw y))) ∙ k
 
         was : (d : ℕ) → NoStore (set (m .stores) t new) d → NoStore (m .stores) d
         was d k j =
@@ -121,7 +121,7 @@ module _ (K : Kind) (L : Lent (K .Num)) (start : Run (K .Num)) where
         one freeStore h = h
         one (live p c x) h = h
 
-    settled-given : (t : ℕ) (v : K .Num) (c : ℕ) → NoStore (map (giveStore t v) (m .stores)) c → getD cells c (K .nought) ≡ ran q c
+    settled-given : (t : ℕ) (v : K .Num) (c : ℕ) → NoStore (map (giveStore t v) (m .stores)) c → getD cells c (K .nought) ≡ cellAt q c
     settled-given t v c h = R .settled c (λ i z. h i (cell-given K L t v (m .stores) i ∙ z))
 
     release-right : (i p c : ℕ) (v : K .Num) → storeAt m i ≡ live p c (num v) → Right (putStore m i freeStore) (set cells c v)

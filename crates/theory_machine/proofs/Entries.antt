@@ -20,7 +20,7 @@ use Rattle.theory_machine.specs.Count.{wordsLeft, bufferLeft, stationLef
 use Rattle.theory_machine.specs.OneAtATime.{Run, runTo}
 use Rattle.theory_machine.specs.Entries.{emptyMachine, listRefusal, lowestPermitted, fresh, oneAtATime, stepsLeft, lowestStep}
 use Rattle.theory_machine.specs.Statement.{RefusedEntries, Permitted, isDrained, IsLowest}
-use Rattle.theory_machine.proofs.Rows.{bool-cases, absurd-bool, Found, first-some, first-none, getD-all, sum-zero}
+use Rattle.theory_machine.proofs.Rows.{bool-cases, absurd-bool, IsFirst, first-some, first-none, getD-all, sum-zero}
 use Rattle.theory_machine.proofs.Words.{Passes, passes}
 use Rattle.theory_machine.proofs.Moves.{step-view}
 use Rattle.theory_machine.proofs.GoodOrder.{Good, good-of, of-good}
@@ -83,9 +83,9 @@ module _ (K : Kind) (L : Lent (K .Num)) where
     unfolding fresh
     fresh-is starts = rw (eq-eqb (listRefusal K L) 0 z)
 
-    pub ran-is : (start : Run (K .Num)) → oneAtATime K L start ≡ record { refusal = 0; run = runTo K L start (length (L .words)) }
+    pub one-at-a-time-is : (start : Run (K .Num)) → oneAtATime K L start ≡ record { refusal = 0; run = runTo K L start (length (L .words)) }
     unfolding oneAtATime
-    ran-is start = rw (eq-eqb (listRefusal K L) 0 z)
+    one-at-a-time-is start = rw (eq-eqb (listRefusal K L) 0 z)
 
     pub left-is : (m : Machine (K .Num)) → inOrder K L m ≡ true → stepsLeft K L m ≡ record { refusal = 0; left = countLeft (L .words) m }
     unfolding stepsLeft
@@ -156,7 +156,7 @@ module _ (K : Kind) (L : Lent (K .Num)) where
       unfolding lowestPermitted test
       looked = ap (λ r. r .code) (lowest-is m o)
 
-      found : (code : ℕ) → lowestStep K L m .code ≡ some code → Found test 0 codeLimit code
+      found : (code : ℕ) → lowestStep K L m .code ≡ some code → IsFirst test 0 codeLimit code
       found code e = first-some test 0 codeLimit code (sym looked ∙ e)
 
       none-of : isDrained K L m ≡ true → (r : Option ℕ) → lowestStep K L m .code ≡ r → r ≡ none

@@ -12,7 +12,7 @@ use borrow.Author.Tests.{ltb-true, ltb-false, lt-ltb, le-ltb, eq-eqb, ne-eqb}
 use Rattle.theory_machine.specs.Rows.{sum}
 use Rattle.theory_machine.specs.Tags.{bufferTag, stationTag}
 use Rattle.theory_machine.specs.Instruction.{Instruction, noInstruction, load, store, copy, cellArithmetic, registerArithmetic, decode}
-use Rattle.theory_machine.specs.Machine.{Kind, Lent, num, StoreBuffer, freeStore, live, Machine, Shape, Released, registerAt}
+use Rattle.theory_machine.specs.Machine.{Kind, Lent, num, StoreBuffer, freeStore, live, Machine, Shape, Record, registerAt}
 use Rattle.theory_machine.specs.Issue.{instructionAt}
 use Rattle.theory_machine.specs.Steps.{giveStore}
 use Rattle.theory_machine.specs.Asked.{written, logged, writtenAll}
@@ -26,7 +26,7 @@ use Rattle.theory_machine.proofs.Progress.{Still}
 
 -- THE CELLS ARE THE LOG, written in order
 
-pub written-snoc : {A : Type 0} (cells : List A) (log : List (Released A)) (e : Option (Released A))
+pub written-snoc : {A : Type 0} (cells : List A) (log : List (Record A)) (e : Option (Record A))
     → writtenAll cells (logged log e) ≡ written (writtenAll cells log) e
 written-snoc cells log none = refl
 written-snoc cells [] (some r) = refl
@@ -58,10 +58,10 @@ module _ (K : Kind) (L : Lent (K .Num)) where
   zero-or true = refl
   zero-or false = refl
 
-  abbrev pub Balanced : Machine (K .Num) → List (Released (K .Num)) → Type 0
+  abbrev pub Balanced : Machine (K .Num) → List (Record (K .Num)) → Type 0
   Balanced m log = (q : ℕ) → recordsOf q log + sum (holdsPlace q) (m .stores) ≡ issuedOf (m .next) q
 
-  module _ (m : Machine (K .Num)) (S : Shape m) (log : List (Released (K .Num))) (B : Balanced m log) where
+  module _ (m : Machine (K .Num)) (S : Shape m) (log : List (Record (K .Num))) (B : Balanced m log) where
     quiet-issue : recordsDue (instructionAt K L (m .next)) ≡ 0 → (q : ℕ) → recordsOf q log + sum (holdsPlace q) (m .stores) ≡ issuedOf (suc (m .next)) q
     quiet-issue e q = B q ∙ omega (arith, issued-next (m .next) q 0 e, zero-or (eqb (m .next) q))
 

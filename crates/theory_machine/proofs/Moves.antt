@@ -13,7 +13,7 @@ use Rattle.words.specs.Instructions.{listLimit}
 use Rattle.theory_machine.specs.Rows.{allBelow}
 use Rattle.theory_machine.specs.Tags.{bufferCount, stationCount, storeCount, suits}
 use Rattle.theory_machine.specs.Instruction.{Instruction, noInstruction, load, store, copy, cellArithmetic, registerArithmetic}
-use Rattle.theory_machine.specs.Machine.{Kind, Lent, num, tag, Buffer, freeBuffer, waiting, full, Station, freeStation, holding, done, StoreBuffer, freeStore, live, Machine, Released, bufferAt, stationAt, storeAt, isFreeBuffer, isFreeStation, isFreeStore, storeCell}
+use Rattle.theory_machine.specs.Machine.{Kind, Lent, num, tag, Buffer, freeBuffer, waiting, full, Station, freeStation, holding, done, StoreBuffer, freeStore, live, Machine, Record, bufferAt, stationAt, storeAt, isFreeBuffer, isFreeStation, isFreeStore, storeCell}
 use Rattle.theory_machine.specs.GoodOrder.{hasCell}
 use Rattle.theory_machine.specs.Issue.{Answer, refused, taken, lowestBuffer, lowestStation, lowestStore, cellLive, withSlot, withBoth, loaded, withCell, withRegister, storing, issueOf, wordAt, instructionAt, refusalOf, issueNext}
 use Rattle.theory_machine.specs.Steps.{Step, unknownCode, issue, arrival, completion, bufferGrant, stationGrant, release, stepOf, grantBuffer, grantStation, releaseStore, arrive, complete, performStep, perform, inOrder, step}
@@ -89,7 +89,7 @@ module _ (K : Kind) (L : Lent (K .Num)) where
   abbrev pub moved : (m : Machine (K .Num)) → Move m → Machine (K .Num)
   moved m v = answered m v .machine
 
-  abbrev pub effect : (m : Machine (K .Num)) → Move m → Option (Released (K .Num))
+  abbrev pub effect : (m : Machine (K .Num)) → Move m → Option (Record (K .Num))
   effect m v = answered m v .released
 
   -- WHAT AN ANSWER IS: refused, with the machine as given and nothing released; or that of a move

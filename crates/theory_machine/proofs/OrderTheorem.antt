@@ -11,12 +11,12 @@ use lib.Seq.{ext-getD}
 use borrow.Author.Tests.{le-ltb, eq-eqb, ne-eqb}
 use Rattle.theory_machine.specs.Rows.{Every}
 use Rattle.theory_machine.specs.Tags.{registerCount, bufferCount, stationCount, storeCount, Slot, neither, buffer, station, slotOf}
-use Rattle.theory_machine.specs.Machine.{Kind, Lent, Operand, num, tag, Buffer, freeBuffer, Station, freeStation, StoreBuffer, freeStore, live, Machine, Shape, Released, registerAt, storeCell}
+use Rattle.theory_machine.specs.Machine.{Kind, Lent, Operand, num, tag, Buffer, freeBuffer, Station, freeStation, StoreBuffer, freeStore, live, Machine, Shape, Record, registerAt, storeCell}
 use Rattle.theory_machine.specs.GoodOrder.{nobody, giverIn, giver, giverOf}
 use Rattle.theory_machine.specs.Issue.{isTaken}
 use Rattle.theory_machine.specs.Steps.{inOrder, step}
 use Rattle.theory_machine.specs.OneAtATime.{Run, value, runTo}
-use Rattle.theory_machine.specs.Entries.{Fresh, Ran, emptyMachine, listRefusal, stepsLeft}
+use Rattle.theory_machine.specs.Entries.{Fresh, OneAtATime, emptyMachine, listRefusal, stepsLeft}
 use Rattle.theory_machine.specs.Asked.{State, written, logged, writtenAll, ask, asked, takenOf, begin}
 use Rattle.theory_machine.specs.Statement.{isDrained, OfStore, OrderTheorem}
 use Rattle.words.proofs.Known.{eqb-cases}
@@ -29,11 +29,11 @@ use Rattle.theory_machine.proofs.Progress.{Still, still-is, drained-sti
 use Rattle.theory_machine.proofs.Right.{right, registers-kept, cells-kept}
 use Rattle.theory_machine.proofs.Cells.{Right, right-moved}
 use Rattle.theory_machine.proofs.Log.{written-snoc, Balanced, balanced-moved, at-most-once, each-once}
-use Rattle.theory_machine.proofs.Entries.{empty-shape, empty-good, fresh-is, ran-is, progress-theorem, step-lowers, fresh-count, drained-left}
+use Rattle.theory_machine.proofs.Entries.{empty-shape, empty-good, fresh-is, one-at-a-time-is, progress-theorem, step-lowers, fresh-count, drained-left}
 
 module _ (K : Kind) (L : Lent (K .Num)) (start : Run (K .Num)) where
   -- WHAT HOLDS THROUGHOUT, of machine, cells and log
-  pub record Sound (m : Machine (K .Num)) (cells : List (K .Num)) (log : List (Released (K .Num))) : Type 0 where
+  pub record Sound (m : Machine (K .Num)) (cells : List (K .Num)) (log : List (Record (K .Num))) : Type 0 where
     pub shape : Shape m
     pub good : Good K L m
     pub correct : Right K L start m cells
@@ -66,16 +66,16 @@ module _ (K : Kind) (L : Lent (K .Num)) (start : Run (K .Num)) where
 
     -- A MOVE
 
-    abbrev RecordIf : Option (Released (K .Num)) → Type 0
+    abbrev RecordIf : Option (Record (K .Num)) → Type 0
     RecordIf none = Unit
     RecordIf (some r) = OfStore K L start r
 
-    records-on : (log : List (Released (K .Num))) (e : Option (Released (K .Num))) → Every (OfStore K L start) log → RecordIf e
+    records-on : (log : List (Record (K .Num))) (e : Option (Record (K .Num))) → Every (OfStore K L start) log → RecordIf e
         → Every (OfStore K L start) (logged log e)
     records-on log none h q = h
     records-on log (some r) h q = every-snoc (OfStore K L start) log r h q
 
-    module _ (m : Machine (K .Num)) (cells : List (K .Num)) (log : List (Released (K .Num))) (Z : Sound m cells log) where
+    module _ (m : Machine (K .Num)) (cells : List (K .Num)) (log : List (Record (K .Num))) (Z : Sound m cells log) where
       record-of : (v : Move K L m) → RecordIf (effect K L m v)
       record-of (issuing b t u h r w) = tt
       record-of (arriving i p c h e) = tt
@@ -192,8 +192,8 @@ order-theorem K L start z four lent codes =
       counted = count-asked K L start four lent z (begin K L start) (sound-begin K L start four lent z) codes ∙ fresh-count K L z (start .registers) four;
       noneLeft = drained-left K L z m (Z .shape) o;
       registersRight = λ d. still-registers K L start four lent s Z (stops d) ∙ ap (λ (n : ℕ). map {B = Operand (K .Num)} num (runTo K L start n .registers)) (ends d)
-          ∙ ap (λ (r : Ran (K .Num)). map {B = Operand (K .Num)} num (r .run .registers)) (sym (ran-is K L z start));
+          ∙ ap (λ (r : OneAtATime (K .Num)). map {B = Operand (K .Num)} num (r .run .registers)) (sym (one-at-a-time-is K L z start));
       cellsRight = λ d. still-cells K L start four lent s Z (stops d) ∙ ap (λ (n : ℕ). runTo K L start n .cells) (ends d)
-          ∙ ap (λ (r : Ran (K .Num)). r .run .cells) (sym (ran-is K L z start));
+          ∙ ap (λ (r : OneAtATime (K .Num)). r .run .cells) (sym (one-at-a-time-is K L z start));
       eachOnce = λ d. each-once K L m (Z .shape) (s .log) (Z .balance) (ends d) (stops d);
     }

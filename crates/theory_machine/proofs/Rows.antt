@@ -87,7 +87,7 @@ allBelow-not (suc n) p e =
     (λ (q : p n ≡ false). (n, omega arith, q))
     (bool-cases (p n))
 
-pub record Found (p : ℕ → Bool) (lo n i : ℕ) : Type 0 where
+pub record IsFirst (p : ℕ → Bool) (lo n i : ℕ) : Type 0 where
   pub low : lo ≤ i
   pub high : i < lo + n
   pub holds : p i ≡ true
@@ -96,7 +96,7 @@ pub record Found (p : ℕ → Bool) (lo n i : ℕ) : Type 0 where
 -- what a search found, or that it found nothing
 abbrev pub Search : (ℕ → Bool) → (lo n : ℕ) → Option ℕ → Type 0
 Search p lo n none = (j : ℕ) → lo ≤ j → j < lo + n → p j ≡ false
-Search p lo n (some i) = Found p lo n i
+Search p lo n (some i) = IsFirst p lo n i
 
 pub search-view : (p : ℕ → Bool) (lo n : ℕ) → Search p lo n (first p lo n)
 search-view p lo zero = λ j a b. absurd (omega arith)
@@ -114,7 +114,7 @@ search-view p lo (suc n) =
       least = λ j a b. ⊎-elim (λ (s : j ≡ lo). rw s q) (λ (s : j ≢ lo). f .least j (omega arith) b) (eqb-cases j lo);
     }
 
-pub first-some : (p : ℕ → Bool) (lo n i : ℕ) → first p lo n ≡ some i → Found p lo n i
+pub first-some : (p : ℕ → Bool) (lo n i : ℕ) → first p lo n ≡ some i → IsFirst p lo n i
 first-some p lo n i e = subst (Search p lo n) e (search-view p lo n)
 
 pub first-none : (p : ℕ → Bool) (lo n : ℕ) → first p lo n ≡ none → (j : ℕ) → lo ≤ j → j < lo + n → p j ≡ false

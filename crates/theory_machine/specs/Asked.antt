@@ -4,7 +4,7 @@ use mathlib.Core.Option.{Option, none, some}
 use mathlib.Core.List.{List, [], _∷_, _++_}
 use Prim.Native.Nat.{ℕ, zero, suc, _+_}
 use lib.ListN.{set}
-use Rattle.theory_machine.specs.Machine.{Kind, Lent, Machine, Released}
+use Rattle.theory_machine.specs.Machine.{Kind, Lent, Machine, Record}
 use Rattle.theory_machine.specs.Issue.{Answer, isTaken}
 use Rattle.theory_machine.specs.Steps.{step}
 use Rattle.theory_machine.specs.OneAtATime.{Run}
@@ -14,20 +14,20 @@ use Rattle.theory_machine.specs.Entries.{fresh, lowestStep}
 pub record State (A : Type 0) : Type 0 where
   pub machine : Machine A
   pub cells : List A
-  pub log : List (Released A)
+  pub log : List (Record A)
 
 module _ {A : Type 0} where
   -- the cells with what was released
-  abbrev pub written : List A → Option (Released A) → List A
+  abbrev pub written : List A → Option (Record A) → List A
   written cells none = cells
   written cells (some r) = set cells (r .cell) (r .number)
 
-  abbrev pub logged : List (Released A) → Option (Released A) → List (Released A)
+  abbrev pub logged : List (Record A) → Option (Record A) → List (Record A)
   logged log none = log
   logged log (some r) = log ++ r ∷ []
 
   -- the cells with the records of a log, in order
-  abbrev pub writtenAll : List A → List (Released A) → List A
+  abbrev pub writtenAll : List A → List (Record A) → List A
   writtenAll cells [] = cells
   writtenAll cells (r ∷ rs) = writtenAll (written cells (some r)) rs
 

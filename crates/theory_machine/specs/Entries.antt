@@ -18,7 +18,7 @@ pub record Fresh (A : Type 0) : Type 0 where
   pub refusal : ℕ
   pub machine : Machine A
 
-pub record Ran (A : Type 0) : Type 0 where
+pub record OneAtATime (A : Type 0) : Type 0 where
   pub refusal : ℕ
   pub run : Run A
 
@@ -57,7 +57,7 @@ module _ (K : Kind) (L : Lent (K .Num)) where
       (record { refusal = 0; machine = emptyMachine starts })
 
   -- "the one-at-a-time run need[s] a list that passes against its areas; .. Refused, .. gives the start numbers back"
-  unfoldable pub oneAtATime : (start : Run (K .Num)) → Ran (K .Num)
+  unfoldable pub oneAtATime : (start : Run (K .Num)) → OneAtATime (K .Num)
   oneAtATime start =
       cond (not (eqb listRefusal 0)) (record { refusal = listRefusal; run = start })
       (record { refusal = 0; run = runTo K L start (length (L .words)) })

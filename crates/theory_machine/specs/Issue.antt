@@ -10,14 +10,14 @@ use Rattle.words.specs.Check.{wordRefusal}
 use Rattle.theory_machine.specs.Rows.{allBelow, first}
 use Rattle.theory_machine.specs.Tags.{bufferCount, stationCount, storeCount, bufferTag, stationTag, suits}
 use Rattle.theory_machine.specs.Instruction.{Instruction, noInstruction, load, store, copy, cellArithmetic, registerArithmetic, decode}
-use Rattle.theory_machine.specs.Machine.{Kind, Lent, Operand, tag, Buffer, waiting, Station, holding, StoreBuffer, live, Machine, Released, bufferAt, stationAt, storeAt, registerAt, isFreeBuffer, isFreeStation, isFreeStore, storeCell}
+use Rattle.theory_machine.specs.Machine.{Kind, Lent, Operand, tag, Buffer, waiting, Station, holding, StoreBuffer, live, Machine, Record, bufferAt, stationAt, storeAt, registerAt, isFreeBuffer, isFreeStation, isFreeStore, storeCell}
 use Rattle.theory_machine.specs.GoodOrder.{hasCell}
 
 -- AN ANSWER: the refusal number (0: accepted), the machine, and what was released, if anything
 pub record Answer (A : Type 0) : Type 0 where
   pub refusal : ℕ
   pub machine : Machine A
-  pub released : Option (Released A)
+  pub released : Option (Record A)
 
 module _ {A : Type 0} where
   -- "A refused call returns the machine as given and writes nothing"

@@ -57,7 +57,7 @@ pub record Shape {A : Type 0} (m : Machine A) : Type 0 where
   pub threeStores : length (m .stores) ≡ storeCount
 
 -- a record of the release log: "place, cell, number"
-pub record Released (A : Type 0) : Type 0 where
+pub record Record (A : Type 0) : Type 0 where
   pub place : ℕ
   pub cell : ℕ
   pub number : A

@@ -11,7 +11,7 @@ use Rattle.words.specs.Instructions.{listLimit}
 use Rattle.theory_machine.specs.Rows.{sum, Every}
 use Rattle.theory_machine.specs.Tags.{registerCount}
 use Rattle.theory_machine.specs.Instruction.{Instruction, noInstruction, load, store, copy, cellArithmetic, registerArithmetic, r1Of}
-use Rattle.theory_machine.specs.Machine.{Kind, Lent, num, Machine, Shape, Released}
+use Rattle.theory_machine.specs.Machine.{Kind, Lent, num, Machine, Shape, Record}
 use Rattle.theory_machine.specs.GoodOrder.{drained}
 use Rattle.theory_machine.specs.Issue.{refused, instructionAt}
 use Rattle.theory_machine.specs.Steps.{perform, inOrder, step}
@@ -91,7 +91,7 @@ RefusedEntries K L =
     × (listRefusal K L ≡ 0 → (m : Machine (K .Num)) → inOrder K L m ≡ false → RefusedMachine K L m)
 
 -- how many records a log has of place q
-abbrev pub recordsOf : {A : Type 0} → (q : ℕ) → List (Released A) → ℕ
+abbrev pub recordsOf : {A : Type 0} → (q : ℕ) → List (Record A) → ℕ
 recordsOf q log = sum (λ r. cond (eqb (r .place) q) 1 0) log
 
 -- how many it is to have: one of a store, none of any other instruction
@@ -105,7 +105,7 @@ recordsDue (registerArithmetic o r x) = 0
 
 module _ (K : Kind) (L : Lent (K .Num)) (start : Run (K .Num)) where
   -- a record is that of a store of the list: its place, its cell, and R1's number there in the one-at-a-time run
-  pub record OfStore (r : Released (K .Num)) : Type 0 where
+  pub record OfStore (r : Record (K .Num)) : Type 0 where
     pub inList : r .place < length (L .words)
     pub itsCell : instructionAt K L (r .place) ≡ store (r1Of (instructionAt K L (r .place))) (r .cell)
     pub itsNumber : r .number ≡ value K (runTo K L start (r .place)) (r1Of (instructionAt K L (r .place)))

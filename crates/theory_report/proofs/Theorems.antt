@@ -13,7 +13,7 @@ use Rattle.theory_report.specs.declared.Fault.the-variants.{Nothing}
 use Rattle.theory_report.specs.Text.{decimal}
 use Rattle.theory_report.specs.Words as word
 use Rattle.theory_report.specs.Operands.{operandsLimit}
-use Rattle.theory_report.specs.Report.{fileLimit, fileFault, listFault, operandsFault, scheduleFault, areasFault, bytesIn, lentBy, runOf, ranText, orStopped, reportText}
+use Rattle.theory_report.specs.Report.{fileLimit, fileFault, listFault, operandsFault, scheduleFault, areasFault, bytesIn, lentOfFiles, runOf, ranText, orStopped, reportText}
 use Rattle.theory_report.specs.Theorem.{FaultsInOrder, Stopped, FirstShown, FirstAtFault}
 
 -- so many whole patterns
@@ -24,8 +24,8 @@ grouped : (a b c d e f g : List ℕ) → a ++ b ++ c ++ (d ++ e ++ f ++ g) ≡ a
 grouped a b c d e f g = simp append-assoc
 
 module _ (name further : List ℕ) (fault : Fault) where
-  stopped : Stopped name fault (orStopped fault name further)
-  stopped = record { missing = λ e. rw e (simp append-assoc); refused = λ number place e. rw e (grouped word.stopped name word.space (decimal number) word.at (decimal place) word.lineEnd) }
+  stop-line : Stopped name fault (orStopped fault name further)
+  stop-line = record { missing = λ e. rw e (simp append-assoc); refused = λ number place e. rw e (grouped word.stopped name word.space (decimal number) word.at (decimal place) word.lineEnd) }
 
   past : fault ≡ Nothing → orStopped fault name further ≡ further
   past e = rw e
@@ -51,20 +51,20 @@ module _ (a b c d : Fault) (p q r s further : List ℕ) where
   past-three e f g = past-two e f ∙ past r fourth c g
 
   at-second : a ≡ Nothing → Stopped q b first
-  at-second e = subst (Stopped q b) (sym (past p second a e)) (stopped q third b)
+  at-second e = subst (Stopped q b) (sym (past p second a e)) (stop-line q third b)
 
   at-third : a ≡ Nothing → b ≡ Nothing → Stopped r c first
-  at-third e f = subst (Stopped r c) (sym (past-two e f)) (stopped r fourth c)
+  at-third e f = subst (Stopped r c) (sym (past-two e f)) (stop-line r fourth c)
 
   at-fourth : a ≡ Nothing → b ≡ Nothing → c ≡ Nothing → Stopped s d first
-  at-fourth e f g = subst (Stopped s d) (sym (past-three e f g)) (stopped s further d)
+  at-fourth e f g = subst (Stopped s d) (sym (past-three e f g)) (stop-line s further d)
 
   at-last : a ≡ Nothing → b ≡ Nothing → c ≡ Nothing → d ≡ Nothing → first ≡ further
   at-last e f g h = past-three e f g ∙ past s further d h
 
 module _ (listFile operandsFile scheduleFile : Option (List ℕ)) where
   abbrev L : Lent Float
-  L = lentBy (bytesIn listFile) (bytesIn operandsFile)
+  L = lentOfFiles (bytesIn listFile) (bytesIn operandsFile)
 
   abbrev ranAs : List ℕ
   ranAs = ranText L (runOf L (bytesIn scheduleFile))
@@ -81,7 +81,7 @@ module _ (listFile operandsFile scheduleFile : Option (List ℕ)) where
   first-shown : FirstShown listFile operandsFile scheduleFile (reportText listFile operandsFile scheduleFile)
   unfolding reportText
   first-shown = record {
-    list = stopped word.list (second list-fault operands-fault schedule-fault (areasFault L) word.list word.operands word.schedule word.areas ranAs) list-fault;
+    list = stop-line word.list (second list-fault operands-fault schedule-fault (areasFault L) word.list word.operands word.schedule word.areas ranAs) list-fault;
     operands = at-second list-fault operands-fault schedule-fault (areasFault L) word.list word.operands word.schedule word.areas ranAs;
     schedule = at-third list-fault operands-fault schedule-fault (areasFault L) word.list word.operands word.schedule word.areas ranAs;
     areas = at-fourth list-fault operands-fault schedule-fault (areasFault L) word.list word.operands word.schedule word.areas ranAs;

@@ -13,10 +13,10 @@ use Rattle.words.specs.Check.{listCheck}
 use Rattle.seven_bit.specs.SevenBits.{Parsed, accepted, refused}
 use Rattle.list_file.specs.Reading.{listIn}
 use Rattle.theory_machine.specs.Tags.{registerCount}
-use Rattle.theory_machine.specs.Machine.{Lent, Operand, num, tag, Machine, Released}
+use Rattle.theory_machine.specs.Machine.{Lent, Operand, num, tag, Machine, Record}
 use Rattle.theory_machine.specs.Entries.{fresh, stepsLeft}
 use Rattle.theory_machine.specs.Binary64.{binary64}
-use Rattle.theory_run.specs.Run.{Ran, run}
+use Rattle.theory_run.specs.Run.{ScheduleRun, run}
 use Rattle.theory_report.specs.declared.Fault.{Fault}
 use Rattle.theory_report.specs.declared.Fault.the-variants.{Nothing, Missing, Refused}
 use Rattle.theory_report.specs.Text.{decimal, pattern}
@@ -84,8 +84,8 @@ wordsIn (accepted words end) = words
 wordsIn (refused number place) = []
 
 -- the list, the operand cells, "256 result cells"
-abbrev pub lentBy : (list operands : List ℕ) → Lent Float
-lentBy list operands = record { words = wordsIn (listIn listLimit list); operands = operandsIn operands; results = cellLimit }
+abbrev pub lentOfFiles : (list operands : List ℕ) → Lent Float
+lentOfFiles list operands = record { words = wordsIn (listIn listLimit list); operands = operandsIn operands; results = cellLimit }
 
 -- "one refused against the areas gives `stopped areas N at PLACE`, with the word's place"
 abbrev pub verdictFault : Verdict → Fault
@@ -105,7 +105,7 @@ nought = binary64 .nought
 abbrev pub startOf : Lent Float → Machine Float
 startOf L = fresh binary64 L (replicate registerCount nought) .machine
 
-unfoldable pub runOf : Lent Float → (schedule : List ℕ) → Ran Float
+unfoldable pub runOf : Lent Float → (schedule : List ℕ) → ScheduleRun Float
 runOf L schedule = run binary64 L logRoom schedule (startOf L) (replicate cellLimit nought)
 
 -- LINES: "steps done; refusal and byte place; steps left; registers; records; then each record's place, cell and pattern"
@@ -128,10 +128,10 @@ abbrev pub registerLines : (number : ℕ) → List (Operand Float) → List ℕ
 registerLines number [] = []
 registerLines number (operand ∷ rest) = registerLine number operand ++ registerLines (number + 2) rest
 
-unfoldable pub recordLine : Released Float → List ℕ
+unfoldable pub recordLine : Record Float → List ℕ
 recordLine r = decimal (r .place) ++ space ++ decimal (r .cell) ++ space ++ pattern (patternOf (r .number)) ++ lineEnd
 
-abbrev pub recordLines : List (Released Float) → List ℕ
+abbrev pub recordLines : List (Record Float) → List ℕ
 recordLines [] = []
 recordLines (r ∷ rs) = recordLine r ++ recordLines rs
 
@@ -139,18 +139,18 @@ abbrev pub headText : (done number place still : ℕ) (registers : List (Operand
 headText done number place still registers records =
     countLine steps done ++ refusalLine number place ++ countLine left still ++ registerLines 0 registers ++ countLine log records
 
-abbrev pub pageText : (done number place still : ℕ) (registers : List (Operand Float)) (records : List (Released Float)) → List ℕ
+abbrev pub pageText : (done number place still : ℕ) (registers : List (Operand Float)) (records : List (Record Float)) → List ℕ
 pageText done number place still registers records = headText done number place still registers (length records) ++ recordLines records
 
 -- what is told of a run that was made
-abbrev pub ranText : Lent Float → Ran Float → List ℕ
+abbrev pub ranText : Lent Float → ScheduleRun Float → List ℕ
 ranText L r =
     pageText (r .steps) (r .refusal) (r .place) (stepsLeft binary64 L (r .state .machine) .left) (r .state .machine .registers) (r .state .log)
 
 -- "the first file at fault in that order is shown"; the areas "after all three files are found good"
 unfoldable pub reportText : (listFile operandsFile scheduleFile : Option (List ℕ)) → List ℕ
 reportText listFile operandsFile scheduleFile =
-    let L = lentBy (bytesIn listFile) (bytesIn operandsFile) in
+    let L = lentOfFiles (bytesIn listFile) (bytesIn operandsFile) in
     orStopped (fileFault listFile listFault) list
     (orStopped (fileFault operandsFile operandsFault) operands
     (orStopped (fileFault scheduleFile scheduleFault) schedule

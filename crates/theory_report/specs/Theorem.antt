@@ -12,7 +12,7 @@ use Rattle.theory_report.specs.declared.Fault.{Fault}
 use Rattle.theory_report.specs.declared.Fault.the-variants.{Nothing, Missing, Refused}
 use Rattle.theory_report.specs.Ascii.{ascii}
 use Rattle.theory_report.specs.Text.{decimal}
-use Rattle.theory_report.specs.Report.{fileFault, listFault, operandsFault, scheduleFault, areasFault, bytesIn, lentBy, runOf, ranText, reportText}
+use Rattle.theory_report.specs.Report.{fileFault, listFault, operandsFault, scheduleFault, areasFault, bytesIn, lentOfFiles, runOf, ranText, reportText}
 
 -- "in one file missing comes first, then 11, 4, 8": the fault of each file, by its bytes alone
 pub record FaultsInOrder : Type 0 where
@@ -41,7 +41,7 @@ pub record Stopped (name : List ℕ) (fault : Fault) (text : List ℕ) : Type 0 
 -- what a text shows of three files: the line of the first fault, in 01's order; without one, the run
 module _ (listFile operandsFile scheduleFile : Option (List ℕ)) where
   abbrev lentIn : Lent Float
-  lentIn = lentBy (bytesIn listFile) (bytesIn operandsFile)
+  lentIn = lentOfFiles (bytesIn listFile) (bytesIn operandsFile)
 
   pub record FirstShown (text : List ℕ) : Type 0 where
     pub list : Stopped (ascii "list") (fileFault listFile listFault) text

@@ -10,18 +10,18 @@ use lib.Dec.{leb}
 use lib.ListN.{length, length-append}
 use borrow.Author.Tests.{leb-true, leb-false, eqb-false, not-true, not-false}
 use Rattle.seven_bit.specs.SevenBits.{Parsed, accepted, refused, numberAt}
-use Rattle.theory_machine.specs.Machine.{Kind, Lent, Released}
+use Rattle.theory_machine.specs.Machine.{Kind, Lent, Record}
 use Rattle.theory_machine.specs.Issue.{Answer, isTaken}
 use Rattle.theory_machine.specs.Steps.{step}
 use Rattle.theory_machine.specs.Asked.{State, logged, ask, asked, takenOf}
 use Rattle.theory_machine.proofs.Rows.{cond-cases}
-use Rattle.theory_run.specs.Run.{Ran, Turn, stops, isRelease, byTurn, turn, runFrom}
+use Rattle.theory_run.specs.Run.{ScheduleRun, Turn, stops, isRelease, byTurn, turn, runFrom}
 use Rattle.theory_run.specs.Theorem.{firstCodes, placeAfter, StopsForCause}
-use Rattle.theory_run.proofs.Numbers.{Read, number-read}
+use Rattle.theory_run.proofs.Numbers.{ReadWithin, number-read}
 
 module _ (K : Kind) (L : Lent (K .Num)) (room : ℕ) (schedule : List ℕ) where
   -- `count` codes from this place on have been taken
-  pub record Gone (s : State (K .Num)) (steps place : ℕ) (r : Ran (K .Num)) : Type 0 where
+  pub record Gone (s : State (K .Num)) (steps place : ℕ) (r : ScheduleRun (K .Num)) : Type 0 where
     pub count : ℕ
     pub stepsAre : r .steps ≡ steps + count
     pub same : r .state ≡ asked K L s (firstCodes schedule count place)
@@ -30,14 +30,14 @@ module _ (K : Kind) (L : Lent (K .Num)) (room : ℕ) (schedule : List ℕ) where
     pub placed : r .place ≡ placeAfter schedule count place
     pub logFits : length (s .log) ≤ room → length (r .state .log) ≤ room
 
-  abbrev stopped : State (K .Num) → (steps place refusal : ℕ) → Ran (K .Num)
-  stopped s steps place n = record { state = s; steps = steps; place = place; refusal = n }
+  abbrev endedAt : State (K .Num) → (steps place refusal : ℕ) → ScheduleRun (K .Num)
+  endedAt s steps place n = record { state = s; steps = steps; place = place; refusal = n }
 
   -- what comes of a turn
-  abbrev then : (turns : ℕ) → State (K .Num) → (steps place : ℕ) → Turn (K .Num) → Ran (K .Num)
-  then k s steps place t = byTurn t (λ n. stopped s steps place n) (λ t next. runFrom K L room schedule k t (suc steps) next)
+  abbrev then : (turns : ℕ) → State (K .Num) → (steps place : ℕ) → Turn (K .Num) → ScheduleRun (K .Num)
+  then k s steps place t = byTurn t (λ n. endedAt s steps place n) (λ t next. runFrom K L room schedule k t (suc steps) next)
 
-  gone-none : (s : State (K .Num)) (steps place n : ℕ) → Gone s steps place (stopped s steps place n)
+  gone-none : (s : State (K .Num)) (steps place n : ℕ) → Gone s steps place (endedAt s steps place n)
   gone-none s steps place n = record {
     count = 0;
     stepsAre = omega arith;
@@ -49,13 +49,13 @@ module _ (K : Kind) (L : Lent (K .Num)) (room : ℕ) (schedule : List ℕ) where
   }
 
   -- a release that finds room, or no release
-  log-fits : (log : List (Released (K .Num))) (e : Option (Released (K .Num))) → isRelease e && leb room (length log) ≡ false → length log ≤ room
+  log-fits : (log : List (Record (K .Num))) (e : Option (Record (K .Num))) → isRelease e && leb room (length log) ≡ false → length log ≤ room
       → length (logged log e) ≤ room
   log-fits log none f h = h
   log-fits log (some r) f h = omega (arith, leb-false room (length log) f, length-append log (r ∷ []))
 
   module _ (s : State (K .Num)) (steps place code next : ℕ) (e : numberAt schedule place ≡ accepted code next) where
-    gone-on : (r : Ran (K .Num)) → isTaken (step K L (s .machine) code) ≡ true
+    gone-on : (r : ScheduleRun (K .Num)) → isTaken (step K L (s .machine) code) ≡ true
         → isRelease (step K L (s .machine) code .released) && leb room (length (s .log)) ≡ false
         → Gone (ask K L s code) (suc steps) next r → Gone s steps place r
     gone-on r t f g = record {
@@ -90,18 +90,18 @@ module _ (K : Kind) (L : Lent (K .Num)) (room : ℕ) (schedule : List ℕ) where
 
   -- WHY IT STOPS
 
-  abbrev Caused : Ran (K .Num) → Type 0
+  abbrev Caused : ScheduleRun (K .Num) → Type 0
   Caused r = StopsForCause K L room schedule r
 
-  caused-by : (s : State (K .Num)) (steps place n : ℕ) → n ≢ 0 → turn K L room s (numberAt schedule place) ≡ stops n → Caused (stopped s steps place n)
+  caused-by : (s : State (K .Num)) (steps place n : ℕ) → n ≢ 0 → turn K L room s (numberAt schedule place) ≡ stops n → Caused (endedAt s steps place n)
   caused-by s steps place n z e = record { atTheEnd = λ q. absurd (z q); ofItsCode = λ _. e }
 
-  caused-end : (s : State (K .Num)) (steps place : ℕ) → place ≡ length schedule → Caused (stopped s steps place 0)
+  caused-end : (s : State (K .Num)) (steps place : ℕ) → place ≡ length schedule → Caused (endedAt s steps place 0)
   caused-end s steps place e = record { atTheEnd = λ _. e; ofItsCode = λ z. absurd (z refl) }
 
   caused-turn : (k : ℕ) (s : State (K .Num)) (steps place : ℕ)
       → ((t : State (K .Num)) (next : ℕ) → place < next → next ≤ length schedule → Caused (runFrom K L room schedule k t (suc steps) next))
-      → (p : Parsed ℕ) → numberAt schedule place ≡ p → Read (length schedule) place p → Caused (then k s steps place (turn K L room s p))
+      → (p : Parsed ℕ) → numberAt schedule place ≡ p → ReadWithin (length schedule) place p → Caused (then k s steps place (turn K L room s p))
   caused-turn k s steps place later (refused n at) e z = caused-by s steps place n z (ap (turn K L room s) e)
   caused-turn k s steps place later (accepted code next) e z =
       let a : Answer (K .Num) = step K L (s .machine) code in

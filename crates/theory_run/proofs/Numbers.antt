@@ -39,15 +39,15 @@ limited-fits n (whole value size) h = cond-cases (Fits n) (ltb numberLimit value
 limited-fits n (broken refusal) h = h
 
 -- the number at a place within the schedule
-abbrev pub Read : (length place : ℕ) → Parsed ℕ → Type 0
-Read n at (accepted code next) = (at < next) × (next ≤ n)
-Read n at (refused number place) = number ≢ 0
+abbrev pub ReadWithin : (length place : ℕ) → Parsed ℕ → Type 0
+ReadWithin n at (accepted code next) = (at < next) × (next ≤ n)
+ReadWithin n at (refused number place) = number ≢ 0
 
-pub number-read : (schedule : List ℕ) (at : ℕ) → at < length schedule → Read (length schedule) at (numberAt schedule at)
+pub number-read : (schedule : List ℕ) (at : ℕ) → at < length schedule → ReadWithin (length schedule) at (numberAt schedule at)
 unfolding numberAt numberIn
 number-read schedule at h =
     go (limited (groups (drop at schedule))) (limited-fits (length (drop at schedule)) (groups (drop at schedule)) (groups-fit (drop at schedule)))
   where
-    go : (g : Groups) → Fits (length (drop at schedule)) g → Read (length schedule) at (placed at g)
+    go : (g : Groups) → Fits (length (drop at schedule)) g → ReadWithin (length schedule) at (placed at g)
     go (whole value size) f = (omega (arith, f .0), omega (arith, f .1, length-drop at schedule))
     go (broken refusal) f = f

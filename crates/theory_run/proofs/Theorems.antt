@@ -14,7 +14,7 @@ use Rattle.theory_machine.specs.Asked.{State, asked, takenOf, begin}
 use Rattle.theory_machine.specs.Statement.{Outcome}
 use Rattle.theory_machine.proofs.Rows.{cond-cases}
 use Rattle.theory_machine.proofs.Theorems.{orderTheorem}
-use Rattle.theory_run.specs.Run.{Ran, run}
+use Rattle.theory_run.specs.Run.{ScheduleRun, run}
 use Rattle.theory_run.specs.Theorem.{firstCodes, placeAfter, IsAsked, RunIsAsked, RunStopsForCause, RefusedRuns, DemandThreeOfRuns}
 use Rattle.theory_run.proofs.Going.{Gone, gone, caused}
 
@@ -27,7 +27,7 @@ module _ (K : Kind) (L : Lent (K .Num)) (room : ℕ) (schedule : List ℕ) where
   not-begun m cells n = record { same = refl; each = refl; taken = refl; placed = refl; logFits = omega arith }
 
   -- the codes taken are as many as the steps
-  begun : (s : State (K .Num)) (r : Ran (K .Num)) → length (s .log) ≤ room → Gone K L room schedule s 0 0 r → IsAsked K L room schedule s r
+  begun : (s : State (K .Num)) (r : ScheduleRun (K .Num)) → length (s .log) ≤ room → Gone K L room schedule s 0 0 r → IsAsked K L room schedule s r
   begun s r h g =
       let e : g .count ≡ r .steps = omega (arith, g .stepsAre) in
       record {
@@ -50,7 +50,7 @@ module _ (K : Kind) (L : Lent (K .Num)) (room : ℕ) (schedule : List ℕ) where
   pub runIsAsked : RunIsAsked K L room schedule
   unfolding run
   runIsAsked m cells =
-      let Is : Ran (K .Num) → Type 0 = IsAsked K L room schedule (start m cells) in
+      let Is : ScheduleRun (K .Num) → Type 0 = IsAsked K L room schedule (start m cells) in
       cond-cases Is (not (eqb (listRefusal K L) 0)) (λ _. not-begun m cells (listRefusal K L))
       (λ _. cond-cases Is (not (inOrder K L m)) (λ _. not-begun m cells 6)
       (λ _. begun (start m cells) _ (omega arith) (gone K L room schedule _ (start m cells) 0 0)))
@@ -63,7 +63,7 @@ module _ (K : Kind) (L : Lent (K .Num)) (room : ℕ) (schedule : List ℕ) where
 -- demand 3
 pub demandThreeOfRuns : DemandThreeOfRuns
 demandThreeOfRuns K L room schedule start z four lent =
-    let r : Ran (K .Num) = run K L room schedule (fresh K L (start .registers) .machine) (start .cells) in
+    let r : ScheduleRun (K .Num) = run K L room schedule (fresh K L (start .registers) .machine) (start .cells) in
     let a : IsAsked K L room schedule (begin K L start) r = runIsAsked K L room schedule (fresh K L (start .registers) .machine) (start .cells) in
     subst (λ (s : State (K .Num)). Outcome K L start s (r .steps)) (sym (a .same))
     (subst (λ (k : ℕ). Outcome K L start (asked K L (begin K L start) (firstCodes schedule (r .steps) 0)) k) (a .taken)

@@ -6,14 +6,14 @@ use Prim.Native.Nat.{ℕ, zero, suc}
 use lib.Dec.{leb, eqb}
 use lib.ListN.{length, drop}
 use Rattle.seven_bit.specs.SevenBits.{Parsed, accepted, refused, numberAt}
-use Rattle.theory_machine.specs.Machine.{Kind, Lent, Machine, Released}
+use Rattle.theory_machine.specs.Machine.{Kind, Lent, Machine, Record}
 use Rattle.theory_machine.specs.Issue.{Answer, isTaken}
 use Rattle.theory_machine.specs.Steps.{inOrder, step}
 use Rattle.theory_machine.specs.Entries.{listRefusal}
 use Rattle.theory_machine.specs.Asked.{State, after}
 
 -- "Answer: steps done, byte place of the refused code (or the length), refusal, records written"; with the machine, the cells and the records
-pub record Ran (A : Type 0) : Type 0 where
+pub record ScheduleRun (A : Type 0) : Type 0 where
   pub state : State A
   pub steps : ℕ
   pub place : ℕ
@@ -24,13 +24,13 @@ pub data Turn (A : Type 0) : Type 0 where
   stops : (refusal : ℕ) → Turn A
   goes : State A → (next : ℕ) → Turn A
 
-abbrev pub isRelease : {A : Type 0} → Option (Released A) → Bool
+abbrev pub isRelease : {A : Type 0} → Option (Record A) → Bool
 isRelease none = false
 isRelease (some r) = true
 
-abbrev pub byTurn : {A B : Type 0} → Turn A → (stopped : ℕ → B) → (onward : State A → ℕ → B) → B
-byTurn (stops number) stopped onward = stopped number
-byTurn (goes s next) stopped onward = onward s next
+abbrev pub byTurn : {A B : Type 0} → Turn A → (endedAt : ℕ → B) → (onward : State A → ℕ → B) → B
+byTurn (stops number) endedAt onward = endedAt number
+byTurn (goes s next) endedAt onward = onward s next
 
 module _ (K : Kind) (L : Lent (K .Num)) (room : ℕ) where
   -- "A permitted release that finds the log full is refused with 11."
@@ -48,7 +48,7 @@ module _ (K : Kind) (L : Lent (K .Num)) (room : ℕ) where
   module _ (schedule : List ℕ) where
     -- "takes codes until the end or the first refusal"; "Steps before a refusal stand". Each code has a byte or more, so that as many turns
     -- as there are bytes are enough
-    unfoldable pub runFrom : (turns : ℕ) → State (K .Num) → (steps place : ℕ) → Ran (K .Num)
+    unfoldable pub runFrom : (turns : ℕ) → State (K .Num) → (steps place : ℕ) → ScheduleRun (K .Num)
     runFrom zero s steps place = record { state = s; steps = steps; place = place; refusal = 0 }
     runFrom (suc k) s steps place =
         cond (leb (length schedule) place) (record { state = s; steps = steps; place = place; refusal = 0 })
@@ -60,11 +60,11 @@ module _ (K : Kind) (L : Lent (K .Num)) (room : ℕ) where
     unlogged m cells = record { machine = m; cells = cells; log = [] }
 
     -- "If the list or machine is refused, the answer shows 0 steps, byte place 0 and 0 records."
-    abbrev pub notBegun : Machine (K .Num) → (cells : List (K .Num)) → (refusal : ℕ) → Ran (K .Num)
+    abbrev pub notBegun : Machine (K .Num) → (cells : List (K .Num)) → (refusal : ℕ) → ScheduleRun (K .Num)
     notBegun m cells number = record { state = unlogged m cells; steps = 0; place = 0; refusal = number }
 
     -- "A run checks the list, then 6, even for an empty schedule"
-    unfoldable pub run : Machine (K .Num) → (cells : List (K .Num)) → Ran (K .Num)
+    unfoldable pub run : Machine (K .Num) → (cells : List (K .Num)) → ScheduleRun (K .Num)
     run m cells =
         cond (not (eqb (listRefusal K L) 0)) (notBegun m cells (listRefusal K L))
         (cond (not (inOrder K L m)) (notBegun m cells 6)

@@ -13,7 +13,7 @@ use Rattle.theory_machine.specs.OneAtATime.{Run}
 use Rattle.theory_machine.specs.Entries.{listRefusal, fresh}
 use Rattle.theory_machine.specs.Asked.{State, asked, takenOf}
 use Rattle.theory_machine.specs.Statement.{Outcome}
-use Rattle.theory_run.specs.Run.{Ran, stops, turn, run}
+use Rattle.theory_run.specs.Run.{ScheduleRun, stops, turn, run}
 
 -- "A schedule is a row of numbers, each a step code": its numbers, without any machine
 module _ (schedule : List ℕ) where
@@ -38,7 +38,7 @@ module _ (schedule : List ℕ) where
 module _ (K : Kind) (L : Lent (K .Num)) (room : ℕ) (schedule : List ℕ) where
   -- what the run r, begun in state s, has done: machine, cells and records are those of the codes it took, asked one by one; these are the
   -- first of the schedule, each of them was taken, and the byte place is that after them
-  pub record IsAsked (s : State (K .Num)) (r : Ran (K .Num)) : Type 0 where
+  pub record IsAsked (s : State (K .Num)) (r : ScheduleRun (K .Num)) : Type 0 where
     pub same : r .state ≡ asked K L s (firstCodes schedule (r .steps) 0)
     pub each : length (firstCodes schedule (r .steps) 0) ≡ r .steps
     pub taken : takenOf K L s (firstCodes schedule (r .steps) 0) ≡ r .steps
@@ -53,7 +53,7 @@ module _ (K : Kind) (L : Lent (K .Num)) (room : ℕ) (schedule : List ℕ) where
       → IsAsked (record { machine = m; cells = cells; log = [] }) (run K L room schedule m cells)
 
   -- A RUN ENDS ONLY AT THE END, WITH 0, OR WITH THE REFUSAL OF THE CODE AT ITS PLACE: "takes codes until the end or the first refusal"
-  pub record StopsForCause (r : Ran (K .Num)) : Type 0 where
+  pub record StopsForCause (r : ScheduleRun (K .Num)) : Type 0 where
     pub atTheEnd : r .refusal ≡ 0 → r .place ≡ length schedule
     pub ofItsCode : r .refusal ≢ 0 → turn K L room (r .state) (numberAt schedule (r .place)) ≡ stops (r .refusal)
 
@@ -63,7 +63,7 @@ module _ (K : Kind) (L : Lent (K .Num)) (room : ℕ) (schedule : List ℕ) where
       → StopsForCause (run K L room schedule m cells)
 
   -- A RUN OF A REFUSED LIST OR MACHINE: "the answer shows 0 steps, byte place 0 and 0 records", and machine and cells are as given
-  abbrev notBegunWith : Machine (K .Num) → (cells : List (K .Num)) → (refusal : ℕ) → Ran (K .Num)
+  abbrev notBegunWith : Machine (K .Num) → (cells : List (K .Num)) → (refusal : ℕ) → ScheduleRun (K .Num)
   notBegunWith m cells n = record { state = record { machine = m; cells = cells; log = [] }; steps = 0; place = 0; refusal = n }
 
   pub record RefusedRuns (m : Machine (K .Num)) (cells : List (K .Num)) : Type 0 where
@@ -77,4 +77,4 @@ abbrev pub DemandThreeOfRuns : Type 1
 DemandThreeOfRuns =
     (K : Kind) (L : Lent (K .Num)) (room : ℕ) (schedule : List ℕ) (start : Run (K .Num)) → listRefusal K L ≡ 0
     → length (start .registers) ≡ registerCount → length (start .cells) ≡ L .results
-    → let r : Ran (K .Num) = run K L room schedule (fresh K L (start .registers) .machine) (start .cells) in Outcome K L start (r .state) (r .steps)
+    → let r : ScheduleRun (K .Num) = run K L room schedule (fresh K L (start .registers) .machine) (start .cells) in Outcome K L start (r .state) (r .steps)

@@ -3,7 +3,7 @@ use mathlib.Core.List.{List}
 use Prim.Native.Nat.{ℕ}
 use lib.ListN.{length}
 use lib.Ieee.{Float}
-use Rattle.theory_machine.specs.Machine.{Lent, Operand, Machine, Released}
+use Rattle.theory_machine.specs.Machine.{Lent, Operand, Machine, Record}
 use Rattle.theory_machine.specs.Entries.{stepsLeft}
 use Rattle.theory_machine.specs.Binary64.{binary64}
 use Rattle.theory_run.specs.Run.{run}
@@ -25,7 +25,7 @@ pub record RanSeen : Type 0 where
   pub refusal : ℕ
   pub registers : List (Operand Float)
   pub cells : List Float
-  pub records : List (Released Float)
+  pub records : List (Record Float)
   pub left : ℕ
 
 abbrev pub ranSeen : Scheduled → RanSeen

@@ -8,7 +8,7 @@ use lib.Ieee.{Float}
 use Rattle.words.specs.Check.{listCheck, listCheckAlone}
 use Rattle.list_file.specs.Reading.{readAnswer, readWords}
 use Rattle.list_file.specs.Writing.{writeAnswer, writeBytes}
-use Rattle.theory_machine.specs.Machine.{Lent, Operand, num, Released}
+use Rattle.theory_machine.specs.Machine.{Lent, Operand, num, Record}
 use Rattle.theory_machine.specs.GoodOrder.{drained}
 use Rattle.theory_machine.specs.Issue.{Answer, taken}
 use Rattle.theory_machine.specs.Steps.{step}
@@ -36,14 +36,14 @@ pub record Seen : Type 0 where
   pub answers : List ℕ
   pub registers : List (Operand Float)
   pub cells : List Float
-  pub log : List (Released Float)
+  pub log : List (Record Float)
   pub left : ℕ
   pub drained : Bool
   pub lowest : Option ℕ
   pub alone : Run Float
 
 -- a session that ends drained, with these registers and cells in the one-at-a-time run too
-abbrev pub ended : (answers : List ℕ) (registers cells : List Float) (log : List (Released Float)) → Seen
+abbrev pub ended : (answers : List ℕ) (registers cells : List Float) (log : List (Record Float)) → Seen
 ended answers registers cells log = record {
   fresh = 0;
   answers = answers;
@@ -56,8 +56,8 @@ ended answers registers cells log = record {
   alone = record { registers = registers; cells = cells };
 }
 
-abbrev pub lentOf : Session → Lent Float
-lentOf x = record { words = x .words; operands = x .operands; results = length (x .cells) }
+abbrev pub sessionLent : Session → Lent Float
+sessionLent x = record { words = x .words; operands = x .operands; results = length (x .cells) }
 
 abbrev pub startOf : Session → Run Float
 startOf x = record { registers = x .starts; cells = x .cells }
@@ -68,7 +68,7 @@ watch L s (code ∷ codes) = let r = watch L (ask binary64 L s code) codes in (r
 
 unfoldable pub seen : Session → Seen
 seen x =
-    let L = lentOf x in
+    let L = sessionLent x in
     let r = watch L (begin binary64 L (startOf x)) (x .codes) in
     let m = r .0 .machine in
     record {

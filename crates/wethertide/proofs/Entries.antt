@@ -13,7 +13,7 @@ use Rattle.theory_machine.specs.Binary64.{binary64}
 use Rattle.theory_machine.specs.Issue.{Answer, isTaken}
 use Rattle.theory_machine.specs.Steps.{step}
 use Rattle.theory_machine.specs.Asked.{written}
-use Rattle.theory_run.specs.Run.{Ran}
+use Rattle.theory_run.specs.Run.{ScheduleRun}
 use Rattle.machine_parts.specs.declared.parts.Machine.{Machine}
 use Rattle.machine_parts.specs.declared.parts.Stepped.{Stepped}
 use Rattle.machine_parts.specs.View.{view, lent, viewStepped, viewReleased}
@@ -56,7 +56,7 @@ module _ {words : List ℕ} {operands : List Float} {image : List ℕ} {m : Mach
         (r ∙ ap (sets released 0) t ∙ (λ j. cond (yes j) (sets released 0 (releasedWords (viewReleased (s .released)))) released)))
 
 -- what the loop comes to, in words
-pub run-words : {w : Ran Float} {image log answer image′ log′ answer′ : List ℕ} {r : Progress} {cells′ : List Float} → RunLogged w log r cells′ log′
+pub run-words : {w : ScheduleRun Float} {image log answer image′ log′ answer′ : List ℕ} {r : Progress} {cells′ : List Float} → RunLogged w log r cells′ log′
     → image′ ≡ cond (not (eqb (r .steps) 0)) (imageOver (view (r .machine)) image) image → answer′ ≡ sets answer 0 (r .steps ∷ r .place ∷ r .records ∷ [])
     → RunWords w image log answer (r .refusal) image′ cells′ log′ answer′
 run-words {image = image} {answer = answer} l i t = record {

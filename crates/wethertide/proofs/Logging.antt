@@ -12,8 +12,9 @@ use lib.Ieee.{Float}
 use lib.ListN.{length, set, take, replicate, length-set, length-replicate}
 use lib.Seq.{sets, length-sets, set-out, length-take-le, take-all, take-suc-set, take-append-seam}
 use borrow.Author.Tests.{lt-ltb, le-ltb, ltb-true, ltb-false}
-use Rattle.theory_machine.specs.Machine.{Released, Shape}
-use Rattle.theory_run.specs.Run.{Ran, run, loggedOver}
+use Rattle.theory_machine.specs.Machine as theory
+use Rattle.theory_machine.specs.Machine.{Shape}
+use Rattle.theory_run.specs.Run.{ScheduleRun, run, loggedOver}
 use Rattle.theory_machine.specs.Binary64.{binary64}
 use Rattle.machine_parts.specs.declared.parts.Machine.{Machine}
 use Rattle.machine_parts.specs.declared.parts.Record.{Record}
@@ -21,13 +22,13 @@ use Rattle.machine_parts.specs.View.{view, viewRecord, lent}
 use Rattle.machine_steps.specs.declared.advance.Progress.{Progress}
 use Rattle.machine_steps.specs.declared.advance.Stop.{Stop}
 use Rattle.machine_take.specs.Taking.{Taken}
-use Rattle.machine_steps.specs.Advance.{beginning, blank, stays, stopped, takenOn, goes, advanced, cellsAfter}
+use Rattle.machine_steps.specs.Advance.{beginning, blank, stays, stopOf, takenOn, goes, advanced, cellsAfter}
 use Rattle.list_file.proofs.Laid.{sets-append}
-use Rattle.lent_run.specs.Ran.{Final, pick, runs, left, ran}
+use Rattle.lent_run.specs.ByReleases.{Final, pick, runs, left, runByReleases}
 use Rattle.lent_run.specs.Run.{Shows}
 use Rattle.lent_run.proofs.Answers.{run-answers}
 use Rattle.lent_run.proofs.Onward.{progress}
-use Rattle.lent_run.proofs.RanLaws.{goes-on, is-over}
+use Rattle.lent_run.proofs.ByReleasesLaws.{goes-on, is-over}
 use Rattle.wethertide.specs.Entries.{recordWords, logWords, roomIn, RunLogged, runIn}
 use Rattle.wethertide.specs.Logging.{loggedStop}
 
@@ -54,7 +55,7 @@ laid-more row log r =
 map-take : (log : List Record) (n : ℕ) → map viewRecord (take n log) ≡ take n (map viewRecord log)
 map-take log zero = refl
 map-take [] (suc n) = refl
-map-take (x ∷ log) (suc n) = ap (λ (rs : List (Released Float)). viewRecord x ∷ rs) (map-take log n)
+map-take (x ∷ log) (suc n) = ap (λ (rs : List (theory.Record Float)). viewRecord x ∷ rs) (map-take log n)
 
 -- WHAT A STOP SAYS OF ITS RECORD
 abbrev Told : Bool → Progress → Stop → Type 0
@@ -62,7 +63,7 @@ Told true r s = (s .index ≡ r .records) × (s .progress .records ≡ r .record
 Told false r s = s .progress .records ≡ r .records
 
 module _ (r : Progress) where
-  told-by : (g : Bool) (t : Taken) (o : Option (Released Float)) → let s : Stop = cond g (stopped r t o) (stays r) in Told (s .released) r s
+  told-by : (g : Bool) (t : Taken) (o : Option (theory.Record Float)) → let s : Stop = cond g (stopOf r t o) (stays r) in Told (s .released) r s
   told-by true t none = refl
   told-by true t (some x) = (refl, refl)
   told-by false t o = refl
@@ -180,10 +181,10 @@ module _ (start : Progress) (words : List ℕ) (operands cells₀ : List Float) 
       → RunLogged (runIn words operands (view m) cells₀ schedule row₀) row₀ r cells row
   logs-run m b S {r = r} {cells = cells} g l =
       let n : length log₀ ≡ room = length-replicate room blank in
-      let f : record { run = r; cells = cells; log = l .log } ≡ ran m words operands cells₀ schedule log₀ =
+      let f : record { run = r; cells = cells; log = l .log } ≡ runByReleases m words operands cells₀ schedule log₀ =
       sym (l .comes ∙ ap (λ (b : Bool). pick b (runs (l .turns) r words operands cells schedule room (l .log)) (record { run = r; cells = cells; log = l .log })) g)
       ∙ (λ i. runs (suc (length schedule)) (b i) words operands cells₀ schedule (sym n i) log₀) in
-      let w : Ran Float = runIn words operands (view m) cells₀ schedule row₀ in
+      let w : ScheduleRun Float = runIn words operands (view m) cells₀ schedule row₀ in
       let a : Shows w log₀ r cells (l .log) =
       subst (λ (n : ℕ). Shows (run binary64 (lent words operands cells₀) n schedule (view m) cells₀) log₀ r cells (l .log)) n (run-answers m words operands cells₀ schedule log₀ S f) in
       record {
@@ -194,7 +195,7 @@ module _ (start : Progress) (words : List ℕ) (operands cells₀ : List Float) 
         records = a .records;
         after = a .cells;
         logged = l .laid
-            ∙ ap (λ (rs : List (Released Float)). sets row₀ 0 (logWords rs))
+            ∙ ap (λ (rs : List (theory.Record Float)). sets row₀ 0 (logWords rs))
             (map-take (l .log) (r .records) ∙ (λ i. take (a .records i) (a .log i)) ∙ take-append-seam (w .state .log) _);
       }
 

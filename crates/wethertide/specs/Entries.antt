@@ -10,12 +10,12 @@ use lib.ListN.{length}
 use lib.Seq.{sets}
 use Rattle.numbers.specs.Number.{patternOf}
 use Rattle.theory_machine.specs.Binary64.{binary64}
-use Rattle.theory_machine.specs.Machine.{Machine, Released}
+use Rattle.theory_machine.specs.Machine.{Machine, Record}
 use Rattle.theory_machine.specs.Issue.{Answer, isTaken}
 use Rattle.theory_machine.specs.Steps.{step}
 use Rattle.theory_machine.specs.Asked.{written}
 use Rattle.theory_machine.specs.Entries as theory
-use Rattle.theory_run.specs.Run.{Ran, run}
+use Rattle.theory_run.specs.Run.{ScheduleRun, run}
 use Rattle.machine_parts.specs.View.{view, lent}
 use Rattle.machine_steps.specs.declared.advance.Progress.{Progress}
 use Rattle.machine_words.specs.Rows.{numberAt}
@@ -46,16 +46,16 @@ lowestLength = 2
 abbrev pub ranLength : ℕ
 ranLength = 3
 
-abbrev pub recordWords : Released Float → List ℕ
+abbrev pub recordWords : Record Float → List ℕ
 recordWords r = r .place ∷ r .cell ∷ patternOf (r .number) ∷ []
 
 -- whether a record was released, and the record
-abbrev pub releasedWords : Option (Released Float) → List ℕ
+abbrev pub releasedWords : Option (Record Float) → List ℕ
 releasedWords none = 0 ∷ 0 ∷ 0 ∷ 0 ∷ []
 releasedWords (some r) = 1 ∷ recordWords r
 
 -- the log: three words a record
-abbrev pub logWords : List (Released Float) → List ℕ
+abbrev pub logWords : List (Record Float) → List ℕ
 logWords [] = []
 logWords (r ∷ rs) = recordWords r ++ logWords rs
 
@@ -83,18 +83,18 @@ abbrev pub stepIn : (words : List ℕ) (operands : List Float) (image : List ℕ
 stepIn words operands image cells code = step binary64 (lent words operands cells) (machineIn image) code
 
 -- A RUN: w is the run on paper; the image, the log and the row of answers (steps done, byte place, records written) before and after
-pub record RunWords (w : Ran Float) (image log answer : List ℕ) (number : ℕ) (image′ : List ℕ) (cells′ : List Float) (log′ answer′ : List ℕ) : Type 0 where
+pub record RunWords (w : ScheduleRun Float) (image log answer : List ℕ) (number : ℕ) (image′ : List ℕ) (cells′ : List Float) (log′ answer′ : List ℕ) : Type 0 where
   pub answered : number ≡ w .refusal
   pub machine : image′ ≡ cond (not (eqb (w .steps) 0)) (imageOver (w .state .machine) image) image
   pub after : cells′ ≡ w .state .cells
   pub logged : log′ ≡ sets log 0 (logWords (w .state .log))
   pub told : answer′ ≡ sets answer 0 (w .steps ∷ w .place ∷ length (w .state .log) ∷ [])
 
-abbrev pub runIn : (words : List ℕ) (operands : List Float) (m : Machine Float) (cells : List Float) (schedule log : List ℕ) → Ran Float
+abbrev pub runIn : (words : List ℕ) (operands : List Float) (m : Machine Float) (cells : List Float) (schedule log : List ℕ) → ScheduleRun Float
 runIn words operands m cells schedule log = run binary64 (lent words operands cells) (roomIn log) schedule m cells
 
 -- the same run of a machine by value: what the loop comes to
-pub record RunLogged (w : Ran Float) (log : List ℕ) (r : Progress) (cells′ : List Float) (log′ : List ℕ) : Type 0 where
+pub record RunLogged (w : ScheduleRun Float) (log : List ℕ) (r : Progress) (cells′ : List Float) (log′ : List ℕ) : Type 0 where
   pub machine : view (r .machine) ≡ w .state .machine
   pub steps : r .steps ≡ w .steps
   pub place : r .place ≡ w .place
@@ -104,5 +104,5 @@ pub record RunLogged (w : Ran Float) (log : List ℕ) (r : Progress) (cells′ :
   pub logged : log′ ≡ sets log 0 (logWords (w .state .log))
 
 -- THE ONE-AT-A-TIME RUN, from the numbers in the row of registers
-abbrev pub aloneIn : (words : List ℕ) (operands cells registers : List Float) → theory.Ran Float
+abbrev pub aloneIn : (words : List ℕ) (operands cells registers : List Float) → theory.OneAtATime Float
 aloneIn words operands cells registers = theory.oneAtATime binary64 (lent words operands cells) (record { registers = startsIn registers; cells = cells })

@@ -4,7 +4,7 @@ use machine_parts::parts::Released;
 use machine_steps::lowest::Lowest;
 use machine_words::image::WORDS;
 use machine_words::image::machine_in;
-use machine_words::row::number_at;
+use machine_words::row::number_or_zero;
 use machine_words::row::put_number;
 use machine_words::row::put_words;
 use machine_words::spelling::put_machine;
@@ -68,10 +68,10 @@ fn starts_in(row: &[f64]) -> [f64; 4]
     ensures { λ r. ⌜ r ≡ startsIn (now (row .entry)) ⌝ }
 {
     [
-        number_at(row, 0),
-        number_at(row, 1),
-        number_at(row, 2),
-        number_at(row, 3),
+        number_or_zero(row, 0),
+        number_or_zero(row, 1),
+        number_or_zero(row, 2),
+        number_or_zero(row, 3),
     ]
 }
 

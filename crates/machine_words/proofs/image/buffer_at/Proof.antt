@@ -7,16 +7,16 @@ use Rattle.machine_words.proofs.image.buffer_at.Statement.{statement}
 use Rattle.machine_words.proofs.image.buffer_at.Tie as tie
 
 returns : tie.Need-returns
-returns c = rw (test-taken (c .before .word-at .ensures) (c .if1 .taken))
+returns c = rw (test-taken (c .before .word-or-zero .ensures) (c .if1 .taken))
 
 returns-2 : tie.Need-returns-2
 returns-2 c =
     let w = c .before .before .before .before in
     rw (
-      test-left (w .word-at .ensures) (c .before .before .before .if1 .left),
-      test-taken (w .word-at .ensures) (c .before .before .if2 .taken),
-      c .before .word-at2 .ensures,
-      c .word-at3 .ensures,
+      test-left (w .word-or-zero .ensures) (c .before .before .before .if1 .left),
+      test-taken (w .word-or-zero .ensures) (c .before .before .if2 .taken),
+      c .before .word-or-zero2 .ensures,
+      c .word-or-zero3 .ensures,
     )
 
 returns-3 : tie.Need-returns-3
@@ -24,7 +24,7 @@ returns-3 c =
     let w = c .before .before .before in
     let p = w .before .before .args .place in
     let next : p + 1 + 1 ≡ p + 2 = omega arith in
-    rw (test-left (w .word-at .ensures) (c .before .before .if1 .left), test-left (w .word-at .ensures) (c .before .if2 .left), c .held-at .ensures, next)
+    rw (test-left (w .word-or-zero .ensures) (c .before .before .if1 .left), test-left (w .word-or-zero .ensures) (c .before .if2 .left), c .held-at .ensures, next)
 
 pub buffer-at-spec : {M : Type 1} → statement M
 buffer-at-spec =

@@ -3,7 +3,7 @@ use Rattle.machine_words.proofs.image.held_at.Statement.{statement}
 use Rattle.machine_words.proofs.image.held_at.Tie as tie
 
 returns : tie.Need-returns
-returns c = rw (c .number-of .ensures, c .before .word-at2 .ensures, c .before .before .word-at .ensures)
+returns c = rw (c .number-of .ensures, c .before .word-or-zero2 .ensures, c .before .before .word-or-zero .ensures)
 
 pub held-at-spec : {M : Type 1} → statement M
 held-at-spec =

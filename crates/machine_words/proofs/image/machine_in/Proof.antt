@@ -9,7 +9,7 @@ returns c =
     let buffers = stations .before .before .before .before .before in
     let registers = buffers .before .before .before .before .before .before in
     rw (
-      registers .before .before .before .before .word-at .ensures,
+      registers .before .before .before .before .word-or-zero .ensures,
       registers .before .before .before .register-at .ensures,
       registers .before .before .register-at2 .ensures,
       registers .before .register-at3 .ensures,

@@ -7,21 +7,21 @@ use Rattle.machine_words.proofs.image.station_at.Statement.{statement}
 use Rattle.machine_words.proofs.image.station_at.Tie as tie
 
 returns : tie.Need-returns
-returns c = rw (test-taken (c .before .word-at .ensures) (c .if1 .taken))
+returns c = rw (test-taken (c .before .word-or-zero .ensures) (c .if1 .taken))
 
 returns-2 : tie.Need-returns-2
 returns-2 c =
     let o = c .before .before in
     let t = o .before .before in
     let w = t .before .before in
-    rw (test-left (w .word-at .ensures) (t .before .if1 .left), test-taken (w .word-at .ensures) (t .if2 .taken), o .before .word-at2 .ensures, o .operation-at .ensures, c .before .operand-at .ensures, c .operand-at2 .ensures)
+    rw (test-left (w .word-or-zero .ensures) (t .before .if1 .left), test-taken (w .word-or-zero .ensures) (t .if2 .taken), o .before .word-or-zero2 .ensures, o .operation-at .ensures, c .before .operand-at .ensures, c .operand-at2 .ensures)
 
 returns-3 : tie.Need-returns-3
 returns-3 c =
     let w = c .before .before .before in
     let p = w .before .before .args .place in
     let next : p + 1 + 1 ≡ p + 2 = omega arith in
-    rw (test-left (w .word-at .ensures) (c .before .before .if1 .left), test-left (w .word-at .ensures) (c .before .if2 .left), c .held-at .ensures, next)
+    rw (test-left (w .word-or-zero .ensures) (c .before .before .if1 .left), test-left (w .word-or-zero .ensures) (c .before .if2 .left), c .held-at .ensures, next)
 
 pub station-at-spec : {M : Type 1} → statement M
 station-at-spec =

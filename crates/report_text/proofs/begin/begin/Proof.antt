@@ -12,7 +12,7 @@ returns : tie.Need-returns
 returns c =
     let list = c .before .before .before .before .before in
     let a = list .before .before .before .before .before .before .before .args in
-    rw (c .stopped .ensures)
+    rw (c .at-fault .ensures)
     (stop-list (a .named) (a .list .now) (a .operands .now) (a .schedule .now)
     (list .read-list .ensures .is)
     (sym (c .before .before .stops .ensures) ∙ c .before .if1 .taken))
@@ -24,7 +24,7 @@ returns-2 c =
     let a = list .before .before .before .before .before .before .before .args in
     let l = list .read-list in
     let one = sym (l .ensures .is) ∙ no-fault (l .result .fault) (sym (operands .before .before .stops .ensures) ∙ operands .before .if1 .left) in
-    rw (c .stopped2 .ensures)
+    rw (c .at-fault2 .ensures)
     (stop-operands (a .named) (a .list .now) (a .operands .now) (a .schedule .now)
     one
     (operands .operands-fault .ensures)
@@ -40,7 +40,7 @@ returns-3 c =
     let one = sym (l .ensures .is) ∙ no-fault (l .result .fault) (sym (operands .before .before .stops .ensures) ∙ operands .before .if1 .left) in
     let o = operands .operands-fault in
     let two = sym (o .ensures) ∙ no-fault (o .result) (sym (schedule .before .before .stops2 .ensures) ∙ schedule .before .if2 .left) in
-    rw (c .stopped3 .ensures)
+    rw (c .at-fault3 .ensures)
     (stop-schedule (a .named) (a .list .now) (a .operands .now) (a .schedule .now)
     one
     two

@@ -20,18 +20,18 @@ returns-2 c =
     (stop-text (a .named) (a .list .now) (a .operands .now) (a .schedule .now) (begun .begin .ensures) (sym (c .before .before .before .before .before .stops .ensures) ∙ c .before .before .before .before .if2 .taken))
     (printed-put (room .if1 .left) (c .before .before .put-stop .ensures))
 
-slice-aggregate-ran : tie.Need-slice-aggregate-ran
-slice-aggregate-ran c =
+slice-aggregate-told-run : tie.Need-slice-aggregate-told-run
+slice-aggregate-told-run c =
     let r = c .before .before .before .before .before .before .begin in
     sym (length-take-le (r .result .words) (r .last .1 .1 .1 .1 .0) (omega (arith, r .ensures .fewWords, r .kept .1 .1 .1 .1 .0)))
 
-slice-aggregate-ran-2 : tie.Need-slice-aggregate-ran-2
-slice-aggregate-ran-2 c =
+slice-aggregate-told-run-2 : tie.Need-slice-aggregate-told-run-2
+slice-aggregate-told-run-2 c =
     let r = c .before .before .before .before .before .before .before .begin in
     sym (length-take-le (r .result .operands) (r .last .1 .1 .1 .1 .1 .0) (omega (arith, r .ensures .fewNumbers, r .kept .1 .1 .1 .1 .1 .0)))
 
-ran-requires : tie.Need-ran-requires
-ran-requires c κs = c .before .before .before .before .before .before .before .before .before .before .if1 .left
+told-run-requires : tie.Need-told-run-requires
+told-run-requires c κs = c .before .before .before .before .before .before .before .before .before .before .if1 .left
 
 returns-3 : tie.Need-returns-3
 returns-3 c =
@@ -40,7 +40,7 @@ returns-3 c =
     let a = room .before .before .before .before .before .args in
     let r = begun .begin in
     let no-stop = no-fault (r .result .fault) (sym (c .before .before .before .before .before .before .before .stops .ensures) ∙ c .before .before .before .before .before .before .if2 .left) in
-    rw (run-text (a .named) (a .list .now) (a .operands .now) (a .schedule .now) (r .ensures) no-stop) (printed-put (room .if1 .left) (c .before .before .ran .ensures))
+    rw (run-text (a .named) (a .list .now) (a .operands .now) (a .schedule .now) (r .ensures) no-stop) (printed-put (room .if1 .left) (c .before .before .told-run .ensures))
 
 pub report-spec : {M : Type 1} → statement M
 report-spec =
@@ -55,9 +55,9 @@ report-spec =
     (λ c. search needs)
     returns-2
     (λ c. search needs)
-    slice-aggregate-ran
+    slice-aggregate-told-run
     (λ c. search needs)
-    slice-aggregate-ran-2
-    ran-requires
+    slice-aggregate-told-run-2
+    told-run-requires
     (λ c. search needs)
     returns-3)

@@ -4,7 +4,7 @@ use mathlib.Core.Path.{refl, ap, _∙_}
 use mathlib.Core.List.{List}
 use lib.Ieee.{Float, nan}
 use lib.Seq.{sets}
-use Rattle.theory_machine.specs.Entries.{Ran}
+use Rattle.theory_machine.specs.Entries.{OneAtATime}
 use Rattle.machine_parts.proofs.Four.{four}
 use Rattle.wethertide.proofs.Entries.{carried}
 use Rattle.wethertide.proofs.Room.{is-short, is-roomy}
@@ -23,10 +23,10 @@ returns-2 c =
     let starts = run .before .before in
     let e = rw (starts .starts-in .ensures) at (run .one-at-a-time .ensures) in
     is-roomy (le-leb _ _ (starts .before .before .if1 .left)) (
-      ap (λ (x : Ran Float). x .refusal) e,
-      ap (λ (x : Ran Float). x .run .cells) e,
+      ap (λ (x : OneAtATime Float). x .refusal) e,
+      ap (λ (x : OneAtATime Float). x .run .cells) e,
       rw (c .before .before .put-number4 .ensures, third .put-number3 .ensures, second .put-number2 .ensures, first .put-number .ensures)
-          (carried (λ (x : Ran Float) row. sets row 0 (x .run .registers)) (ap (sets _ 0) (four nan (run .one-at-a-time .result .registers) (search (needs, run .one-at-a-time .ok)))) e),
+          (carried (λ (x : OneAtATime Float) row. sets row 0 (x .run .registers)) (ap (sets _ 0) (four nan (run .one-at-a-time .result .registers) (search (needs, run .one-at-a-time .ok)))) e),
     )
 
 pub wethertide-one-at-a-time-spec : {M : Type 1} → statement M

@@ -8,7 +8,7 @@ use Rattle.theory_machine.specs.Machine.{Shape}
 use Rattle.machine_parts.specs.View.{view}
 use Rattle.machine_parts.proofs.Whole.{whole}
 use Rattle.machine_steps.specs.declared.advance.Progress.{Progress}
-use Rattle.lent_run.specs.Ran.{left}
+use Rattle.lent_run.specs.ByReleases.{left}
 use Rattle.wethertide.proofs.Logging.{Logs, logs-none, logs-stop, logs-less, logs-run, none-at-first}
 use Rattle.wethertide.proofs.run.run_by_value.Statement.{statement}
 use Rattle.wethertide.proofs.run.run_by_value.Tie as tie

@@ -35,7 +35,7 @@ use Rattle.machine_parts.specs.declared.parts.Record.{Record}
 use Rattle.machine_steps.specs.declared.advance.Progress.{Progress}
 use Rattle.machine_steps.specs.declared.advance.Stop.{Stop}
 use Rattle.machine_steps.specs.Advance.{beginning, advanced, cellsAfter}
-use Rattle.lent_run.specs.Ran.{runs, ran, Final}
+use Rattle.lent_run.specs.ByReleases.{runs, runByReleases, Final}
 use Rattle.lent_run.proofs.Answers.{run-answers}
 use Rattle.lent_run.proofs.Shaped.{shaped}
 use Rattle.machine_parts.proofs.parts.Machine as N
@@ -168,7 +168,7 @@ module _ (z : Passed) where
 
   -- the whole run, and the run from a state with at most k stops left
   abbrev pub F : Final
-  F = ran m (ws .now) (os .now) cs₀ (sch .now) lg₀
+  F = runByReleases m (ws .now) (os .now) cs₀ (sch .now) lg₀
 
   abbrev pub go : ℕ → Progress → List Float → List Record → Final
   go k r cs lg = runs k r (ws .now) (os .now) cs (sch .now) (length lg₀) lg

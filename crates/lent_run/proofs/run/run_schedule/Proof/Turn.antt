@@ -39,10 +39,10 @@ use denote.Exit.{yes}
 use Rattle.machine_parts.specs.declared.parts.Record.{Record}
 use Rattle.machine_steps.specs.declared.advance.Progress.{Progress}
 use Rattle.machine_steps.specs.declared.advance.Stop.{Stop}
-use Rattle.lent_run.specs.Ran.{left}
+use Rattle.lent_run.specs.ByReleases.{left}
 use Rattle.lent_run.proofs.Kit.{envAt, tyAt, is-true, is-false}
 use Rattle.lent_run.proofs.Onward.{progress}
-use Rattle.lent_run.proofs.RanLaws.{goes-on, is-over}
+use Rattle.lent_run.proofs.ByReleasesLaws.{goes-on, is-over}
 use Rattle.lent_run.proofs.Again.{LentAgain, lends-again, comes-back}
 use Rattle.machine_steps.proofs.advance.Progress as T
 use Rattle.machine_steps.proofs.advance.Progress.Laws as T′

@@ -18,7 +18,7 @@ use Rattle.machine_take.proofs.Forwards.{moves-on}
 use Rattle.machine_take.proofs.Takes.{Here, goes-on}
 use Rattle.machine_bus.proofs.Given.{Giving, given-all}
 use Rattle.machine_take.proofs.Arms.{Known, Steps, buffer-freed, station-freed, gives-low, gives-high}
-use Rattle.machine_take.proofs.Found.{no-step, issue-found, arrival-found, completion-found, buffer-grant-found, station-grant-found, release-found}
+use Rattle.machine_take.proofs.ChangeFound.{no-step, issue-found, arrival-found, completion-found, buffer-grant-found, station-grant-found, release-found}
 use Rattle.machine_take.proofs.taking.take_codes.Tie as tie
 
 abbrev pub Inv-loop2 : tie.InvT-loop2

@@ -22,12 +22,12 @@ use Rattle.machine_slots.specs.declared.code.Step.{Step}
 use Rattle.machine_slots.specs.declared.code.Step.the-variants.{Unknown, Issue, Arrival, Completion, BufferGrant, StationGrant, Release}
 use Rattle.machine_take.specs.declared.change.Change.{Change}
 use Rattle.machine_take.specs.declared.change.Change.the-variants.{Refused}
-use Rattle.machine_slots.specs.Slots.{Read}
+use Rattle.machine_slots.specs.Slots.{ReadsAs}
 use Rattle.machine_take.specs.Changes.{changed, Makes, IssuesNext}
 use Rattle.machine_slots.proofs.Codes.{performed}
 use Rattle.machine_take.proofs.Arms.{Known}
 
-module _ {L : Lent Float} {n : Machine} {code : ℕ} {s : Step} (read : Read code s) where
+module _ {L : Lent Float} {n : Machine} {code : ℕ} {s : Step} (read : ReadsAs code s) where
   module _ {r c : Change} (q : c ≡ r) where
     made : {f : theory.Machine Float → Answer Float} → Makes r f → f (view n) ≡ perform binary64 L (view n) code → Known L n code c
     made h e = record { changes = record { is = rw q (h .is (view n)) ∙ e; within = rw q (h .within); inList = λ g. absurd (h .stays (rw q at g)) } }

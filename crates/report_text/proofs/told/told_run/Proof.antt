@@ -1,7 +1,7 @@
-use Rattle.report_text.proofs.Told.{records-fit, told}
+use Rattle.report_text.proofs.ToldRun.{records-fit, told}
 use borrow.Author.Needs.{needs}
-use Rattle.report_text.proofs.ran.ran.Statement.{statement}
-use Rattle.report_text.proofs.ran.ran.Tie as tie
+use Rattle.report_text.proofs.told.told_run.Statement.{statement}
+use Rattle.report_text.proofs.told.told_run.Tie as tie
 
 tell-requires : tie.Need-tell-requires
 tell-requires c κs =
@@ -17,8 +17,8 @@ returns c =
     let l = c .before .before .before .before .before .before .before .before .run-logged in
     told (s .args .words .now) (s .args .operands .now) (s .args .schedule .now) (b .result) (b .ensures) (search needs) (l .ensures) (search needs) (c .before .before .tell .ensures)
 
-pub ran-spec : {M : Type 1} → statement M
-ran-spec =
+pub told-run-spec : {M : Type 1} → statement M
+told-run-spec =
     tie.close
     (tie.spec
     (λ c. search needs)

@@ -1,8 +1,8 @@
 use mathlib.Core.Path.{ap}
 use Rattle.theory_machine.specs.Entries.{StepsLeft}
 use borrow.Author.Needs.{needs}
-use Rattle.report_text.proofs.ran.tell.Statement.{statement}
-use Rattle.report_text.proofs.ran.tell.Tie as tie
+use Rattle.report_text.proofs.told.tell.Statement.{statement}
+use Rattle.report_text.proofs.told.tell.Tie as tie
 
 steps-left-requires : tie.Need-steps-left-requires
 steps-left-requires c κs = search needs

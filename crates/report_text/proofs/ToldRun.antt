@@ -6,10 +6,10 @@ use lib.Ieee.{Float}
 use lib.ListN.{length, take, drop, replicate}
 use lib.Seq.{take-append-seam}
 use Rattle.theory_machine.specs.Machine as theory
-use Rattle.theory_machine.specs.Machine.{Lent, Released}
+use Rattle.theory_machine.specs.Machine.{Lent}
 use Rattle.theory_machine.specs.Entries.{stepsLeft}
 use Rattle.theory_machine.specs.Binary64.{binary64}
-use Rattle.theory_run.specs.Run.{Ran, run}
+use Rattle.theory_run.specs.Run.{ScheduleRun, run}
 use Rattle.theory_run.proofs.Theorems.{runIsAsked}
 use Rattle.machine_parts.specs.declared.parts.Machine.{Machine}
 use Rattle.machine_parts.specs.declared.parts.Record.{Record}
@@ -18,7 +18,7 @@ use Rattle.machine_steps.specs.declared.advance.Progress.{Progress}
 use Rattle.lent_run.specs.Run.{Shows, RunAnswer}
 use Rattle.theory_report.specs.Report.{pageText, ranText, nought, startOf, runOf}
 use Rattle.report_text.specs.Put.{PutIn, pageRoom}
-use Rattle.report_text.specs.Files.{lentTo}
+use Rattle.report_text.specs.Files.{reportLent}
 
 map-take : (n : ℕ) (log : List Record) → map viewRecord (take n log) ≡ take n (map viewRecord log)
 map-take zero log = refl
@@ -26,7 +26,7 @@ map-take (suc n) [] = refl
 map-take (suc n) (r ∷ log) = ap (λ (l : List _). viewRecord r ∷ l) (map-take n log)
 
 -- a text by what is told in it
-same-text : (L : Lent Float) {steps steps′ refusal refusal′ place place′ : ℕ} {m m′ : theory.Machine Float} {log log′ : List (Released Float)}
+same-text : (L : Lent Float) {steps steps′ refusal refusal′ place place′ : ℕ} {m m′ : theory.Machine Float} {log log′ : List (theory.Record Float)}
     → steps ≡ steps′ → refusal ≡ refusal′ → place ≡ place′ → m ≡ m′ → log ≡ log′
     → pageText steps refusal place (stepsLeft binary64 L m .left) (m .registers) log ≡ pageText steps′ refusal′ place′ (stepsLeft binary64 L m′ .left) (m′ .registers) log′
 same-text L a b c d e = rw (a, b, c, d, e)
@@ -42,16 +42,16 @@ unfolding runOf
 log-fits L schedule = runIsAsked binary64 L 2048 schedule (startOf L) (replicate 256 nought) .logFits
 
 module _ (words : List ℕ) (operands : List Float) (schedule : List ℕ) (m : Machine) {given log : List Record} {r : Progress} {cells : List Float}
-    (begins : view m ≡ startOf (lentTo words operands)) (n : length given ≡ 2048)
+    (begins : view m ≡ startOf (reportLent words operands)) (n : length given ≡ 2048)
     (is : RunAnswer words operands m (replicate 256 nought) schedule given r cells log) where
-  abbrev w : Ran Float
-  w = runOf (lentTo words operands) schedule
+  abbrev w : ScheduleRun Float
+  w = runOf (reportLent words operands) schedule
 
   shown : Shows w given r cells log
-  shown = subst (λ (w : Ran Float). Shows w given r cells log) (same-run (lentTo words operands) schedule begins n) is
+  shown = subst (λ (w : ScheduleRun Float). Shows w given r cells log) (same-run (reportLent words operands) schedule begins n) is
 
   pub records-fit : r .records ≤ 2048
-  records-fit = rw (shown .records) (log-fits (lentTo words operands) schedule)
+  records-fit = rw (shown .records) (log-fits (reportLent words operands) schedule)
 
   -- the records at the log's front are those of the run
   front-records : map viewRecord (take (r .records) log) ≡ w .state .log
@@ -61,7 +61,7 @@ module _ (words : List ℕ) (operands : List Float) (schedule : List ℕ) (m : M
 
   pub told : {before after : List ℕ} {end : ℕ} → length cells ≡ 256
       → PutIn pageRoom before after 0 end (pageText (r .steps) (r .refusal) (r .place) (stepsLeft binary64 (lent words operands cells) (view (r .machine)) .left) (view (r .machine) .registers) (map viewRecord (take (r .records) log)))
-      → PutIn pageRoom before after 0 end (ranText (lentTo words operands) w)
+      → PutIn pageRoom before after 0 end (ranText (reportLent words operands) w)
   told {before} {after} {end} k =
       subst (PutIn pageRoom before after 0 end)
       (same-text (lent words operands cells) (shown .steps) (shown .refusal) (shown .place) (shown .machine) front-records

@@ -1,8 +1,8 @@
 use Prim.Native.Nat.{_-_, _≤_}
 use lib.ListN.{length}
 use borrow.Author.Needs.{needs}
-use Rattle.test_steps.proofs.scan.number_at.Statement.{statement}
-use Rattle.test_steps.proofs.scan.number_at.Tie as tie
+use Rattle.test_steps.proofs.scan.scan_number.Statement.{statement}
+use Rattle.test_steps.proofs.scan.scan_number.Tie as tie
 
 abbrev Inv-loop : tie.InvT-loop
 Inv-loop bytes start at₀ value₀ at value = value ≤ 1000000000
@@ -10,8 +10,8 @@ Inv-loop bytes start at₀ value₀ at value = value ≤ 1000000000
 abbrev μ-loop : tie.MeasureT-loop
 μ-loop bytes start at₀ value₀ at value = length bytes - at
 
-pub number-at-spec : {M : Type 1} → statement M
-number-at-spec =
+pub scan-number-spec : {M : Type 1} → statement M
+scan-number-spec =
     tie.close
     (tie.spec
     Inv-loop

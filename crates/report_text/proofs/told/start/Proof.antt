@@ -2,8 +2,8 @@ use mathlib.Core.Path.{ap}
 use lib.Ieee.{Float}
 use Rattle.theory_machine.specs.Entries.{Fresh}
 use borrow.Author.Needs.{needs}
-use Rattle.report_text.proofs.ran.start.Statement.{statement}
-use Rattle.report_text.proofs.ran.start.Tie as tie
+use Rattle.report_text.proofs.told.start.Statement.{statement}
+use Rattle.report_text.proofs.told.start.Tie as tie
 
 fresh-requires : tie.Need-fresh-requires
 fresh-requires c κs = search needs

@@ -35,6 +35,6 @@ abbrev pub left : Progress → (schedule : List ℕ) → ℕ
 left r schedule = length schedule - r .place
 
 -- the whole run: a stop for each byte of the schedule, and one more, are enough
-abbrev pub ran : Machine → (words : List ℕ) (operands cells : List Float) (schedule : List ℕ) (log : List Record) → Final
-ran m words operands cells schedule log =
+abbrev pub runByReleases : Machine → (words : List ℕ) (operands cells : List Float) (schedule : List ℕ) (log : List Record) → Final
+runByReleases m words operands cells schedule log =
     runs (suc (length schedule)) (beginning m words operands (length cells)) words operands cells schedule (length log) log

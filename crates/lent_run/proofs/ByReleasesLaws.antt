@@ -9,7 +9,7 @@ use Rattle.machine_parts.specs.declared.parts.Record.{Record}
 use Rattle.machine_steps.specs.declared.advance.Progress.{Progress}
 use Rattle.machine_steps.specs.declared.advance.Stop.{Stop}
 use Rattle.machine_steps.specs.Advance.{advanced, cellsAfter}
-use Rattle.lent_run.specs.Ran.{runs, pick}
+use Rattle.lent_run.specs.ByReleases.{runs, pick}
 
 module _ (words : List ℕ) (operands : List Float) (schedule : List ℕ) (room : ℕ) where
   pub goes-on : (k : ℕ) (r : Progress) (cells : List Float) (log : List Record) (s : Stop) (cells′ : List Float) → s ≡ advanced r words operands cells schedule room → cells′ ≡ cellsAfter r words operands cells schedule room → s .released ≡ true

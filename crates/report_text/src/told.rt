@@ -15,7 +15,7 @@ ghost use Rattle.theory_machine.specs.Binary64.{binary64};
 ghost use Rattle.machine_parts.specs.View.{view, viewRecord, lent};
 ghost use Rattle.theory_report.specs.Report.{startOf, runOf, ranText, pageText};
 ghost use Rattle.report_text.specs.Put.{PutIn, pageRoom};
-ghost use Rattle.report_text.specs.Files.{lentTo};
+ghost use Rattle.report_text.specs.Files.{reportLent};
 
 // All registers start at +0.
 fn start(words: &[u32], operands: &[f64], results: &[f64]) -> Machine
@@ -54,9 +54,9 @@ fn tell(
 }
 
 // "All registers and 256 result cells start at +0. The log has 2,048 records."
-pub(crate) fn ran(out: &mut [u8], words: &[u32], operands: &[f64], schedule: &[u8]) -> usize
+pub(crate) fn told_run(out: &mut [u8], words: &[u32], operands: &[f64], schedule: &[u8]) -> usize
     requires { ⌜ pageRoom ≤ length (now out) ⌝ }
-    ensures { λ r. ⌜ PutIn pageRoom (now (out .entry)) (now (out .exit)) 0 r (ranText (lentTo (now (words .entry)) (now (operands .entry))) (runOf (lentTo (now (words .entry)) (now (operands .entry))) (now (schedule .entry)))) ⌝ }
+    ensures { λ r. ⌜ PutIn pageRoom (now (out .entry)) (now (out .exit)) 0 r (ranText (reportLent (now (words .entry)) (now (operands .entry))) (runOf (reportLent (now (words .entry)) (now (operands .entry))) (now (schedule .entry)))) ⌝ }
 {
     let mut results = [0.0f64; 256];
     let machine = start(words, operands, &results);
