@@ -9,8 +9,9 @@ use lib.Ieee.{Float}
 use lib.ListN.{length, getD, set, List·getD-map, length-map}
 use lib.Seq.{set-getD}
 use Rattle.theory_machine.specs.Machine as theory
-use Rattle.theory_machine.specs.Machine.{num, tag, freeStation, holding, done, freeStore, live}
+use Rattle.theory_machine.specs.Machine.{num, tag, freeStation, holding, done, freeStore, live, registersAre, stationsAre, storesAre}
 use Rattle.theory_machine.specs.Steps.{give, giveStation, giveStore, granted}
+use Rattle.machine_parts.specs.Altered.{putRegister, putStation, putStore}
 use Rattle.machine_parts.specs.View.{view, viewRegister, viewStation, viewStore}
 use Rattle.machine_bus.specs.Bus.{waitsFor, stationWaits, storeWaits}
 use Rattle.machine_parts.specs.declared.parts.Machine.{Machine}
@@ -78,13 +79,12 @@ module _ {A B : Type 0} (f : A → B) (g : B → B) (l₀ : List B) (l : List A)
 
 -- THE MACHINE: so many registers, stations and store buffers have been given to
 abbrev givenTo : (t : ℕ) → Float → (registers stations stores : ℕ) → theory.Machine Float → theory.Machine Float
-givenTo t v i j k m = record {
-  next = m .next;
-  registers = upto (give t v) i (m .registers);
-  buffers = m .buffers;
-  stations = upto (giveStation t v) j (m .stations);
-  stores = upto (giveStore t v) k (m .stores);
-}
+givenTo t v i j k m =
+    storesAre
+    (stationsAre
+    (registersAre m (upto (give t v) i (m .registers)))
+    (upto (giveStation t v) j (m .stations)))
+    (upto (giveStore t v) k (m .stores))
 
 pub record Giving (t : ℕ) (v : Float) (registers stations stores : ℕ) (m₀ m : Machine) : Type 0 where
   pub same : view m ≡ givenTo t v registers stations stores (view m₀)
@@ -98,11 +98,11 @@ module _ {t : ℕ} {v : Float} where
     module _ (d : Register) (g : Giving t v i 0 0 m₀ m) where
       pub register-given : (r : Register) → viewRegister r ≡ give t v (viewRegister (getD (m .registers) i d))
           → Giving t v (i + 1) 0 0 m₀
-          (record { next = m .next; registers = set (m .registers) i r; buffers = m .buffers; stations = m .stations; stores = m .stores })
+          (putRegister m i r)
       register-given r h =
           let e = g .same in
           let row = slot-given viewRegister (give t v) (view m₀ .registers) (m .registers) i d (ap (λ (n : theory.Machine Float). n .registers) e) r h in
-          record { same = λ k. record { next = e k .next; registers = row k; buffers = e k .buffers; stations = e k .stations; stores = e k .stores } }
+          record { same = λ k. registersAre (e k) (row k) }
 
       pub register-kept : waitsFor t (viewRegister (getD (m .registers) i d)) ≡ false → Giving t v (i + 1) 0 0 m₀ m
       register-kept h =
@@ -112,11 +112,11 @@ module _ {t : ℕ} {v : Float} where
     module _ (d : Station) (g : Giving t v 0 i 0 m₀ m) where
       pub station-given : (s : Station) → viewStation s ≡ giveStation t v (viewStation (getD (m .stations) i d))
           → Giving t v 0 (i + 1) 0 m₀
-          (record { next = m .next; registers = m .registers; buffers = m .buffers; stations = set (m .stations) i s; stores = m .stores })
+          (putStation m i s)
       station-given s h =
           let e = g .same in
           let row = slot-given viewStation (giveStation t v) (view m₀ .stations) (m .stations) i d (ap (λ (n : theory.Machine Float). n .stations) e) s h in
-          record { same = λ k. record { next = e k .next; registers = e k .registers; buffers = e k .buffers; stations = row k; stores = e k .stores } }
+          record { same = λ k. stationsAre (e k) (row k) }
 
       pub station-kept : stationWaits t (viewStation (getD (m .stations) i d)) ≡ false → Giving t v 0 (i + 1) 0 m₀ m
       station-kept h =
@@ -126,11 +126,11 @@ module _ {t : ℕ} {v : Float} where
     module _ (d : StoreBuffer) (g : Giving t v 0 0 i m₀ m) where
       pub store-given : (s : StoreBuffer) → viewStore s ≡ giveStore t v (viewStore (getD (m .stores) i d))
           → Giving t v 0 0 (i + 1) m₀
-          (record { next = m .next; registers = m .registers; buffers = m .buffers; stations = m .stations; stores = set (m .stores) i s })
+          (putStore m i s)
       store-given s h =
           let e = g .same in
           let row = slot-given viewStore (giveStore t v) (view m₀ .stores) (m .stores) i d (ap (λ (n : theory.Machine Float). n .stores) e) s h in
-          record { same = λ k. record { next = e k .next; registers = e k .registers; buffers = e k .buffers; stations = e k .stations; stores = row k } }
+          record { same = λ k. storesAre (e k) (row k) }
 
       pub store-kept : storeWaits t (viewStore (getD (m .stores) i d)) ≡ false → Giving t v 0 0 (i + 1) m₀ m
       store-kept h =

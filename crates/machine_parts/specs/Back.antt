@@ -14,6 +14,7 @@ use Rattle.machine_parts.specs.declared.parts.StoreState.the-variants as
 use Rattle.machine_parts.specs.declared.parts.StoreBuffer.{StoreBuffer}
 use Rattle.machine_parts.specs.declared.parts.Machine.{Machine}
 use Rattle.machine_parts.specs.declared.parts.Record.{Record}
+use Rattle.machine_parts.specs.Altered.{standing}
 
 abbrev pub operandOf : theory.Operand Float → Operand
 operandOf (num x) = Number x
@@ -38,13 +39,8 @@ storeOf freeStore = record { state = store.Free }
 storeOf (live p c x) = record { state = store.Live (record { place = p; cell = c; operand = operandOf x }) }
 
 abbrev pub machineOf : theory.Machine Float → Machine
-machineOf m = record {
-  next = m .next;
-  registers = map registerOf (m .registers);
-  buffers = map bufferOf (m .buffers);
-  stations = map stationOf (m .stations);
-  stores = map storeOf (m .stores);
-}
+machineOf m =
+    standing (m .next) (map registerOf (m .registers)) (map bufferOf (m .buffers)) (map stationOf (m .stations)) (map storeOf (m .stores))
 
 abbrev pub recordOf : theory.Record Float → Record
 recordOf r = record { place = r .place; cell = r .cell; number = r .number }

@@ -1,3 +1,4 @@
+pub mod Altered
 pub mod Answers
 pub mod Back
 pub mod TagOf

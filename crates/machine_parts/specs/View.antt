@@ -5,7 +5,7 @@ use Prim.Native.Nat.{ℕ}
 use lib.Ieee.{Float}
 use lib.ListN.{length}
 use Rattle.theory_machine.specs.Machine as theory
-use Rattle.theory_machine.specs.Machine.{num, tag, freeBuffer, waiting, full, freeStation, holding, done, freeStore, live, Lent}
+use Rattle.theory_machine.specs.Machine.{num, tag, freeBuffer, waiting, full, freeStation, holding, done, freeStore, live, Lent, standing}
 use Rattle.theory_machine.specs.Issue.{Answer}
 use Rattle.machine_parts.specs.declared.parts.Tag.{Tag}
 use Rattle.machine_parts.specs.declared.parts.Operand.{Operand}
@@ -57,13 +57,8 @@ abbrev pub viewStore : StoreBuffer → theory.StoreBuffer Float
 viewStore s = viewStoreState (s .state)
 
 abbrev pub view : Machine → theory.Machine Float
-view m = record {
-  next = m .next;
-  registers = map viewRegister (m .registers);
-  buffers = map viewBuffer (m .buffers);
-  stations = map viewStation (m .stations);
-  stores = map viewStore (m .stores);
-}
+view m =
+    standing (m .next) (map viewRegister (m .registers)) (map viewBuffer (m .buffers)) (map viewStation (m .stations)) (map viewStore (m .stores))
 
 abbrev pub viewRecord : Record → theory.Record Float
 viewRecord r = record { place = r .place; cell = r .cell; number = r .number }

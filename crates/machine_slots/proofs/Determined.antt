@@ -1,7 +1,7 @@
 -- The contract of each public function determines its answer.
 use mathlib.Core.Path.{_≡_, refl, sym, ap, _∙_}
 use Rattle.numbers.proofs.Determined.{Determines, one-answer}
-use Rattle.theory_machine.specs.Steps as steps
+use Rattle.theory_machine.specs.Codes as codes
 use Rattle.machine_parts.proofs.Exact.{register-exact, buffer-exact, station-exact, store-exact}
 use Rattle.machine_slots.specs.declared.code.Step.{Step}
 use Rattle.machine_slots.specs.declared.code.Step.the-variants.{Unknown, Issue, Arrival, Completion, BufferGrant, StationGrant, Release}
@@ -28,14 +28,14 @@ use Rattle.machine_slots.proofs.made.pending.Kinds as pending-kinds
 use Rattle.machine_slots.proofs.made.pending.Reads as pending-reads
 
 -- back from a step of order
-abbrev stepBack : steps.Step → Step
-stepBack steps.unknownCode = Unknown
-stepBack steps.issue = Issue
-stepBack (steps.arrival i) = Arrival i
-stepBack (steps.completion i) = Completion i
-stepBack (steps.bufferGrant i) = BufferGrant i
-stepBack (steps.stationGrant i) = StationGrant i
-stepBack (steps.release i) = Release i
+abbrev stepBack : codes.Step → Step
+stepBack codes.unknownCode = Unknown
+stepBack codes.issue = Issue
+stepBack (codes.arrival i) = Arrival i
+stepBack (codes.completion i) = Completion i
+stepBack (codes.bufferGrant i) = BufferGrant i
+stepBack (codes.stationGrant i) = StationGrant i
+stepBack (codes.release i) = Release i
 
 step-back : (x : Step) → stepBack (viewStep x) ≡ x
 step-back Unknown = refl

@@ -11,15 +11,15 @@ use borrow.Author.Tests.{lt-ltb, le-ltb, lt-leb, ne-eqb}
 use Rattle.seven_bit.specs.SevenBits.{accepted, numberIn, numberAt}
 use Rattle.theory_machine.specs.Machine as theory
 use Rattle.theory_machine.specs.Machine.{Lent, Record}
-use Rattle.theory_machine.proofs.Rows.{above}
-use Rattle.theory_machine.proofs.Tags.{firstArrival, lastArrival, firstCompletion, lastCompletion, firstBufferGrant, lastBufferGrant, firstStationGrant, lastStationGrant, firstRelease, lastRelease}
+use Rattle.theory_machine.proofs.Codes.{unknown-beyond}
 use Rattle.theory_machine.proofs.Moves.{Reply, leaves, does, of-perform}
 use Rattle.machine_take.specs.Taking.{Taken, viewTaken, afterStep, takeFrom}
 use Rattle.machine_take.specs.declared.taking.Taken as declared
 use Rattle.theory_machine.specs.Issue.{Answer}
 use Rattle.theory_machine.specs.Binary64.{binary64}
 use Rattle.theory_machine.specs.GoodOrder.{goodOrder}
-use Rattle.theory_machine.specs.Steps.{unknownCode, stepOf, perform, step}
+use Rattle.theory_machine.specs.Codes.{unknownCode, stepOf}
+use Rattle.theory_machine.specs.Steps.{perform, step}
 use Rattle.theory_machine.specs.Asked.{written}
 use Rattle.machine_parts.specs.declared.parts.Machine.{Machine}
 use Rattle.machine_parts.specs.declared.parts.Released.the-variants.{Nothing}
@@ -27,17 +27,9 @@ use Rattle.machine_parts.specs.declared.parts.Stepped.{Stepped}
 use Rattle.machine_parts.specs.View.{view, viewReleased, viewStepped, lent}
 use Rattle.machine_steps.specs.Step.{StepAnswer}
 
+-- every known code is one byte
 no-code : (code : ℕ) → 127 < code → stepOf code ≡ unknownCode
-unfolding stepOf
-no-code code h =
-    rw (
-      ne-eqb code 0 (λ z. omega arith),
-      above firstArrival lastArrival code (omega arith),
-      above firstCompletion lastCompletion code (omega arith),
-      above firstBufferGrant lastBufferGrant code (omega arith),
-      above firstStationGrant lastStationGrant code (omega arith),
-      above firstRelease lastRelease code (omega arith),
-    )
+no-code code h = unknown-beyond code (omega arith)
 
 -- THE ONE BYTE OF A STEP, as a schedule
 module _ (L : Lent Float) (m : theory.Machine Float) (code : ℕ) where

@@ -15,6 +15,7 @@ use Rattle.theory_machine.specs.Binary64.{binary64}
 use Rattle.theory_machine.specs.Issue.{taken}
 use Rattle.theory_machine.specs.Steps.{perform, granted, giveStation}
 use Rattle.theory_machine.proofs.Tags.{SlotView, is-buffer, is-station, slot-view}
+use Rattle.machine_parts.specs.Altered.{onward, putRegister, putBuffer, putStation, putStore}
 use Rattle.machine_parts.specs.View.{viewRegister, viewBuffer, viewStation, viewStore, view, viewRecord}
 use Rattle.machine_parts.specs.declared.parts.Machine.{Machine}
 use Rattle.machine_parts.specs.declared.parts.Tag.{Tag}
@@ -54,45 +55,45 @@ module _ {L : Lent Float} {m : Machine} {code : ℕ} {c : Change} (h : Known L m
 
   pub loads : {r cell b : ℕ} → c ≡ Loads r cell b → (v : Register) → viewRegister v ≡ tag (bufferTag b) → (w : Buffer)
       → viewBuffer w ≡ waiting (m .next) cell
-      → Steps L m (record { next = m .next + 1; registers = set (m .registers) r v; buffers = set (m .buffers) b w; stations = m .stations; stores = m .stores }) code
+      → Steps L m (onward (putRegister (putBuffer m b w) r v)) code
   loads e v ev w ew = record { taken-is = rw (map-set, map-set, ev, ew, add-one) (is-change e) }
 
   pub takes-cell : {o : Operation} {r cell b s : ℕ} → c ≡ TakesCell o r cell b s → length (m .registers) ≡ registerCount → r < registerCount
       → (x : Station) (y : Register) → viewStation x ≡ holding (m .next) o (viewRegister (registerOf m r)) (viewRegister y)
       → viewRegister y ≡ tag (bufferTag b) → (v : Register)
       → viewRegister v ≡ tag (stationTag s) → (w : Buffer) → viewBuffer w ≡ waiting (m .next) cell
-      → Steps L m (record { next = m .next + 1; registers = set (m .registers) r v; buffers = set (m .buffers) b w; stations = set (m .stations) s x; stores = m .stores }) code
+      → Steps L m (onward (putRegister (putBuffer (putStation m s x) b w) r v)) code
   takes-cell {r = r} e four below x y ex ey v ev w ew =
       record { taken-is = rw (map-set, map-set, map-set, ex, ey, ev, ew, add-one, ← (register-seen (m .registers) r four below)) (is-change e) }
 
   pub copies : {r x : ℕ} → c ≡ Copies r x → length (m .registers) ≡ registerCount → x < registerCount
-      → Steps L m (record { next = m .next + 1; registers = set (m .registers) r (registerOf m x); buffers = m .buffers; stations = m .stations; stores = m .stores }) code
+      → Steps L m (onward (putRegister m r (registerOf m x))) code
   copies {r} {x} e four below = record { taken-is = rw (map-set, add-one, ← (register-seen (m .registers) x four below)) (is-change e) }
 
   pub takes-register : {o : Operation} {r x s : ℕ} → c ≡ TakesRegister o r x s → length (m .registers) ≡ registerCount → r < registerCount
       → x < registerCount → (y : Station) → viewStation y ≡ holding (m .next) o (viewRegister (registerOf m r)) (viewRegister (registerOf m x))
       → (v : Register) → viewRegister v ≡ tag (stationTag s)
-      → Steps L m (record { next = m .next + 1; registers = set (m .registers) r v; buffers = m .buffers; stations = set (m .stations) s y; stores = m .stores }) code
+      → Steps L m (onward (putRegister (putStation m s y) r v)) code
   takes-register {r = r} {x = x} e four below other y ey v ev =
       record { taken-is = rw (map-set, map-set, ey, ev, add-one, ← (register-seen (m .registers) r four below), ← (register-seen (m .registers) x four other)) (is-change e) }
 
   pub stores : {r cell t : ℕ} → c ≡ Stores r cell t → length (m .registers) ≡ registerCount → r < registerCount → (s : StoreBuffer)
       → viewStore s ≡ live (m .next) cell (viewRegister (registerOf m r))
-      → Steps L m (record { next = m .next + 1; registers = m .registers; buffers = m .buffers; stations = m .stations; stores = set (m .stores) t s }) code
+      → Steps L m (onward (putStore m t s)) code
   stores {r} e four below s es = record { taken-is = rw (map-set, es, add-one, ← (register-seen (m .registers) r four below)) (is-change e) }
 
   pub arrives : {b : ℕ} {held : Held} → c ≡ Arrives b held → (w : Buffer) → viewBuffer w ≡ full (held .place) (held .number)
-      → Steps L m (record { next = m .next; registers = m .registers; buffers = set (m .buffers) b w; stations = m .stations; stores = m .stores }) code
+      → Steps L m (putBuffer m b w) code
   arrives e w ew = record { taken-is = rw (map-set, ew) (is-change e) }
 
   pub completes : {s : ℕ} {held : Held} → c ≡ Completes s held → (x : Station) → viewStation x ≡ done (held .place) (held .number)
-      → Steps L m (record { next = m .next; registers = m .registers; buffers = m .buffers; stations = set (m .stations) s x; stores = m .stores }) code
+      → Steps L m (putStation m s x) code
   completes e x ex = record { taken-is = rw (map-set, ex) (is-change e) }
 
   pub releases : {t : ℕ} {r : Record} → c ≡ Releases t r → (s : StoreBuffer) → viewStore s ≡ freeStore
       → record {
         refusal = 0;
-        machine = view (record { next = m .next; registers = m .registers; buffers = m .buffers; stations = m .stations; stores = set (m .stores) t s });
+        machine = view (putStore m t s);
         released = some (viewRecord r);
       }
       ≡ perform binary64 L (view m) code
@@ -136,29 +137,17 @@ module _ {L : Lent Float} {m : Machine} {code : ℕ} {c : Change} (h : Known L m
   names = rw e at (h .changes .within)
 
   pub gives-low : t .0 < firstStation → (w : Buffer) → viewBuffer w ≡ freeBuffer
-      → taken (granted (view (record {
-        next = m .next;
-        registers = m .registers;
-        buffers = set (m .buffers) (t .0 - firstBuffer) w;
-        stations = m .stations;
-        stores = m .stores;
-      })) (t .0) x) ≡ perform binary64 L (view m) code
+      → taken (granted (view (putBuffer m (t .0 - firstBuffer) w)) (t .0) x) ≡ perform binary64 L (view m) code
   gives-low l w ew = rw (map-set, ew) (rw (slot-low (t .0) names l) at (is-change h e))
 
   pub gives-high : firstStation ≤ t .0 → (y : Station) → viewStation y ≡ freeStation
-      → taken (granted (view (record {
-        next = m .next;
-        registers = m .registers;
-        buffers = m .buffers;
-        stations = set (m .stations) (t .0 - firstStation) y;
-        stores = m .stores;
-      })) (t .0) x) ≡ perform binary64 L (view m) code
+      → taken (granted (view (putStation m (t .0 - firstStation) y)) (t .0) x) ≡ perform binary64 L (view m) code
   gives-high l y ey = rw (map-set, map-set, ey) (rw (slot-high (t .0) names l) at (is-change h e))
 
 -- the rows are as long when the giver is freed
 module _ (m : Machine) (S : Shape (view m)) where
   pub buffer-freed : (i : ℕ) (w : Buffer)
-      → Shape (view (record { next = m .next; registers = m .registers; buffers = set (m .buffers) i w; stations = m .stations; stores = m .stores }))
+      → Shape (view (putBuffer m i w))
   buffer-freed i w = record {
     fourRegisters = S .fourRegisters;
     sixBuffers = rw (map-set viewBuffer (m .buffers) i w, length-set) (S .sixBuffers);
@@ -167,7 +156,7 @@ module _ (m : Machine) (S : Shape (view m)) where
   }
 
   pub station-freed : (i : ℕ) (y : Station)
-      → Shape (view (record { next = m .next; registers = m .registers; buffers = m .buffers; stations = set (m .stations) i y; stores = m .stores }))
+      → Shape (view (putStation m i y))
   station-freed i y = record {
     fourRegisters = S .fourRegisters;
     sixBuffers = S .sixBuffers;

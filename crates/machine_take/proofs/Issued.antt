@@ -23,7 +23,7 @@ use Rattle.theory_machine.proofs.Rows.{first-some}
 use Rattle.theory_machine.proofs.Words.{WellFormed, word-formed}
 use Rattle.machine_parts.specs.View.{viewRegister, viewBuffer, viewStation, viewStore}
 use Rattle.machine_free.specs.Free.{viewFreeSlot, lowestBufferIn, lowestStationIn, lowestStoreIn, cellLiveIn}
-use Rattle.machine_take.specs.Changes.{changed, Within, Grows, instructionFor, RegistersIn, standing, Issues, IssuesNext}
+use Rattle.machine_take.specs.Changes.{changed, Within, Grows, instructionFor, RegistersIn, standingSlots, Issues, IssuesNext}
 use Rattle.machine_take.specs.declared.change.Change.{Change}
 use Rattle.machine_take.specs.declared.change.Change.the-variants.{Refused, Loads, TakesCell, Copies, TakesRegister, Stores}
 use Rattle.machine_free.specs.declared.FreeSlot.{FreeSlot}
@@ -117,7 +117,7 @@ module _ {L : Lent Float} {place r operand : ℕ} {f : Form} (w : Reading L plac
   pub issue-goes : {bs : List Buffer} {ss : List Station} {ts : List StoreBuffer} {c : Change} → Issues bs ss ts (instructionFor f r operand) c
       → IssuesNext place bs ss ts L c
   issue-goes {bs} {ss} {ts} h = record {
-    is = λ rs. h .is place rs ∙ sym (issued (standing place rs bs ss ts) refl);
+    is = λ rs. h .is place rs ∙ sym (issued (standingSlots place rs bs ss ts) refl);
     within = h .within;
     inList = λ g. w .inList;
   }
@@ -140,10 +140,10 @@ module _ {L : Lent Float} {place : ℕ} {bs : List Buffer} {ss : List Station} {
 -- THE CHANGE of an issue, once its slots are found
 module _ {bs : List Buffer} {ss : List Station} {ts : List StoreBuffer} where
   issues : {i j : Instruction} {c d : Change} → i ≡ j → c ≡ d
-      → ((next : ℕ) (rs : List (Operand Float)) → issueOf binary64 (standing next rs bs ss ts) j ≡ changed (standing next rs bs ss ts) d)
+      → ((next : ℕ) (rs : List (Operand Float)) → issueOf binary64 (standingSlots next rs bs ss ts) j ≡ changed (standingSlots next rs bs ss ts) d)
       → Within d → Issues bs ss ts i c
   issues e q h w = record {
-    is = λ next rs. ap (changed (standing next rs bs ss ts)) q ∙ sym (h next rs) ∙ sym (ap (issueOf binary64 (standing next rs bs ss ts)) e);
+    is = λ next rs. ap (changed (standingSlots next rs bs ss ts)) q ∙ sym (h next rs) ∙ sym (ap (issueOf binary64 (standingSlots next rs bs ss ts)) e);
     within = rw q w;
   }
 
@@ -152,51 +152,51 @@ module _ {bs : List Buffer} {ss : List Station} {ts : List StoreBuffer} where
     no-operation e = issues (ap (λ (f : Form). instructionFor f r x) e) refl (λ next rs. refl) (λ z. omega arith)
 
     pub load-waits : {c : Change} → form ≡ LD → lowestBufferIn (map viewBuffer bs) ≡ none → c ≡ Refused 7 → Issues bs ss ts (instructionFor form r x) c
-    load-waits e f q = issues (ap (λ (g : Form). instructionFor g r x) e) q (λ next rs. load-by (standing next rs bs ss ts) r x f) (λ z. omega arith)
+    load-waits e f q = issues (ap (λ (g : Form). instructionFor g r x) e) q (λ next rs. load-by (standingSlots next rs bs ss ts) r x f) (λ z. omega arith)
 
     pub load-goes : form ≡ LD → RegistersIn (instructionFor form r x) → {b : ℕ} → lowestBufferIn (map viewBuffer bs) ≡ some b
         → Issues bs ss ts (instructionFor form r x) (Loads r x b)
     load-goes e p f =
-        issues (ap (λ (g : Form). instructionFor g r x) e) refl (λ next rs. load-by (standing next rs bs ss ts) r x f)
-        (rw e at p, buffer-below (standing 0 [] bs ss ts) f)
+        issues (ap (λ (g : Form). instructionFor g r x) e) refl (λ next rs. load-by (standingSlots next rs bs ss ts) r x f)
+        (rw e at p, buffer-below (standingSlots 0 [] bs ss ts) f)
 
     pub copy-goes : form ≡ LDR → RegistersIn (instructionFor form r x) → {y : ℕ} → y ≡ indexOf x → Issues bs ss ts (instructionFor form r x) (Copies r y)
     copy-goes e p q = issues (ap (λ (g : Form). instructionFor g r x) e) (ap (Copies r) q) (λ next rs. refl) (rw e at p)
 
     module _ {o : Operation} where
       pub cell-waits-buffer : {c : Change} → form ≡ CellArithmetic o → lowestBufferIn (map viewBuffer bs) ≡ none → c ≡ Refused 7 → Issues bs ss ts (instructionFor form r x) c
-      cell-waits-buffer e f q = issues (ap (λ (g : Form). instructionFor g r x) e) q (λ next rs. cell-by (standing next rs bs ss ts) o r x f refl) (λ z. omega arith)
+      cell-waits-buffer e f q = issues (ap (λ (g : Form). instructionFor g r x) e) q (λ next rs. cell-by (standingSlots next rs bs ss ts) o r x f refl) (λ z. omega arith)
 
       pub cell-waits-station : {c : Change} → form ≡ CellArithmetic o → {b : ℕ} → lowestBufferIn (map viewBuffer bs) ≡ some b
           → lowestStationIn (map viewStation ss) o ≡ none → c ≡ Refused 7 → Issues bs ss ts (instructionFor form r x) c
-      cell-waits-station e f g q = issues (ap (λ (g : Form). instructionFor g r x) e) q (λ next rs. cell-by (standing next rs bs ss ts) o r x f g) (λ z. omega arith)
+      cell-waits-station e f g q = issues (ap (λ (g : Form). instructionFor g r x) e) q (λ next rs. cell-by (standingSlots next rs bs ss ts) o r x f g) (λ z. omega arith)
 
       pub cell-goes : form ≡ CellArithmetic o → RegistersIn (instructionFor form r x) → {b s : ℕ} → lowestBufferIn (map viewBuffer bs) ≡ some b
           → lowestStationIn (map viewStation ss) o ≡ some s → Issues bs ss ts (instructionFor form r x) (TakesCell o r x b s)
       cell-goes e p f g =
-          issues (ap (λ (g : Form). instructionFor g r x) e) refl (λ next rs. cell-by (standing next rs bs ss ts) o r x f g)
-          (rw e at p, buffer-below (standing 0 [] bs ss ts) f, station-below (standing 0 [] bs ss ts) o g)
+          issues (ap (λ (g : Form). instructionFor g r x) e) refl (λ next rs. cell-by (standingSlots next rs bs ss ts) o r x f g)
+          (rw e at p, buffer-below (standingSlots 0 [] bs ss ts) f, station-below (standingSlots 0 [] bs ss ts) o g)
 
       pub register-waits : {c : Change} → form ≡ RegisterArithmetic o → lowestStationIn (map viewStation ss) o ≡ none → c ≡ Refused 7
           → Issues bs ss ts (instructionFor form r x) c
-      register-waits e f q = issues (ap (λ (g : Form). instructionFor g r x) e) q (λ next rs. register-by (standing next rs bs ss ts) o r (indexOf x) f) (λ z. omega arith)
+      register-waits e f q = issues (ap (λ (g : Form). instructionFor g r x) e) q (λ next rs. register-by (standingSlots next rs bs ss ts) o r (indexOf x) f) (λ z. omega arith)
 
       pub register-goes : form ≡ RegisterArithmetic o → RegistersIn (instructionFor form r x) → {s y : ℕ} → lowestStationIn (map viewStation ss) o ≡ some s
           → y ≡ indexOf x → Issues bs ss ts (instructionFor form r x) (TakesRegister o r y s)
       register-goes e p {s} f q =
           let w : (r < registerCount) × (indexOf x < registerCount) = rw e at p in
           issues (ap (λ (g : Form). instructionFor g r x) e) (ap (λ (y : ℕ). TakesRegister o r y s) q)
-          (λ next rs. register-by (standing next rs bs ss ts) o r (indexOf x) f) (w .0, w .1, station-below (standing 0 [] bs ss ts) o f)
+          (λ next rs. register-by (standingSlots next rs bs ss ts) o r (indexOf x) f) (w .0, w .1, station-below (standingSlots 0 [] bs ss ts) o f)
 
     pub store-twice : {c : Change} → form ≡ STD → cellLiveIn (map viewStore ts) x ≡ true → c ≡ Refused 7 → Issues bs ss ts (instructionFor form r x) c
-    store-twice e f q = issues (ap (λ (g : Form). instructionFor g r x) e) q (λ next rs. store-live (standing next rs bs ss ts) r x f) (λ z. omega arith)
+    store-twice e f q = issues (ap (λ (g : Form). instructionFor g r x) e) q (λ next rs. store-live (standingSlots next rs bs ss ts) r x f) (λ z. omega arith)
 
     pub store-waits : {c : Change} → form ≡ STD → cellLiveIn (map viewStore ts) x ≡ false → lowestStoreIn (map viewStore ts) ≡ none → c ≡ Refused 7
         → Issues bs ss ts (instructionFor form r x) c
-    store-waits e l f q = issues (ap (λ (g : Form). instructionFor g r x) e) q (λ next rs. store-by (standing next rs bs ss ts) r x l f) (λ z. omega arith)
+    store-waits e l f q = issues (ap (λ (g : Form). instructionFor g r x) e) q (λ next rs. store-by (standingSlots next rs bs ss ts) r x l f) (λ z. omega arith)
 
     pub store-goes : form ≡ STD → RegistersIn (instructionFor form r x) → cellLiveIn (map viewStore ts) x ≡ false → {t : ℕ}
         → lowestStoreIn (map viewStore ts) ≡ some t → Issues bs ss ts (instructionFor form r x) (Stores r x t)
     store-goes e p l f =
-        issues (ap (λ (g : Form). instructionFor g r x) e) refl (λ next rs. store-by (standing next rs bs ss ts) r x l f)
-        (rw e at p, store-below (standing 0 [] bs ss ts) f)
+        issues (ap (λ (g : Form). instructionFor g r x) e) refl (λ next rs. store-by (standingSlots next rs bs ss ts) r x l f)
+        (rw e at p, store-below (standingSlots 0 [] bs ss ts) f)

@@ -6,10 +6,10 @@ use Prim.Native.Nat.{ℕ, _<_}
 use lib.Ieee.{Float}
 use lib.ListN.{length}
 use Rattle.theory_machine.specs.Tags.{registerCount, bufferCount, stationCount, storeCount, Slot, neither, buffer, station, slotOf}
-use Rattle.theory_machine.specs.Machine.{Machine, Lent, Operand, freeBuffer, full, freeStation, done, freeStore}
+use Rattle.theory_machine.specs.Machine.{Machine, Lent, Operand, freeBuffer, full, freeStation, done, freeStore, standing, putBuffer, putStation, putStore}
 use Rattle.theory_machine.specs.Binary64.{binary64}
 use Rattle.theory_machine.specs.Issue.{Answer, refused, taken, loaded, copied, withCell, withRegister, storing, issueOf, issueNext}
-use Rattle.theory_machine.specs.Steps.{putBuffer, putStation, putStore, granted, perform}
+use Rattle.theory_machine.specs.Steps.{granted, perform}
 use Rattle.words.specs.declared.Form.{Form}
 use Rattle.words.specs.declared.Form.the-variants.{Unknown, LD, LDR, CellArithmetic, RegisterArithmetic, STD}
 use Rattle.theory_machine.specs.Instruction.{Instruction, noInstruction, load, store, copy, cellArithmetic, registerArithmetic, indexOf}
@@ -104,15 +104,15 @@ RegistersIn (cellArithmetic o r c) = r < registerCount
 RegistersIn (registerArithmetic o r x) = (r < registerCount) × (x < registerCount)
 
 -- a machine with these slots
-abbrev pub standing : (next : ℕ) → List (Operand Float) → List Buffer → List Station → List StoreBuffer → Machine Float
-standing next rs bs ss ts = record { next = next; registers = rs; buffers = map viewBuffer bs; stations = map viewStation ss; stores = map viewStore ts }
+abbrev pub standingSlots : (next : ℕ) → List (Operand Float) → List Buffer → List Station → List StoreBuffer → Machine Float
+standingSlots next rs bs ss ts = standing next rs (map viewBuffer bs) (map viewStation ss) (map viewStore ts)
 
 -- the change c is the issue of instruction i to a machine with these slots, of the word at the next place
 pub record Issues (bs : List Buffer) (ss : List Station) (ts : List StoreBuffer) (i : Instruction) (c : Change) : Type 0 where
-  pub is : (next : ℕ) (rs : List (Operand Float)) → changed (standing next rs bs ss ts) c ≡ issueOf binary64 (standing next rs bs ss ts) i
+  pub is : (next : ℕ) (rs : List (Operand Float)) → changed (standingSlots next rs bs ss ts) c ≡ issueOf binary64 (standingSlots next rs bs ss ts) i
   pub within : Within c
 
 pub record IssuesNext (next : ℕ) (bs : List Buffer) (ss : List Station) (ts : List StoreBuffer) (L : Lent Float) (c : Change) : Type 0 where
-  pub is : (rs : List (Operand Float)) → changed (standing next rs bs ss ts) c ≡ issueNext binary64 L (standing next rs bs ss ts)
+  pub is : (rs : List (Operand Float)) → changed (standingSlots next rs bs ss ts) c ≡ issueNext binary64 L (standingSlots next rs bs ss ts)
   pub within : Within c
   pub inList : Grows c → next < length (L .words)

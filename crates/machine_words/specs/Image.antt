@@ -12,7 +12,7 @@ use Rattle.numbers.specs.declared.Operation.the-variants.{Add, Subtract, Multip
 use Rattle.numbers.specs.Number.{patternOf, numberOf}
 use Rattle.machine_parts.specs.declared.parts.Held.{Held}
 use Rattle.theory_machine.specs.Tags.{registerCount, bufferCount, stationCount, storeCount}
-use Rattle.theory_machine.specs.Machine.{Machine, Operand, num, tag, Buffer, freeBuffer, waiting, full, Station, freeStation, holding, done, StoreBuffer, freeStore, live}
+use Rattle.theory_machine.specs.Machine.{Machine, Operand, num, tag, Buffer, freeBuffer, waiting, full, Station, freeStation, holding, done, StoreBuffer, freeStore, live, standing}
 use Rattle.machine_words.specs.Rows.{wordAt}
 
 abbrev pub imageLength : ℕ
@@ -79,13 +79,9 @@ module _ (image : List ℕ) where
       cond (eqb (wordAt image p) 0) freeStore (live (wordAt image (p + 1)) (wordAt image (p + 2)) (operandAt (p + 3)))
 
   abbrev pub machineIn : Machine Float
-  machineIn = record {
-    next = wordAt image 0;
-    registers = rowAt operandAt registerWidth registerCount registersFrom;
-    buffers = rowAt bufferAt bufferWidth bufferCount buffersFrom;
-    stations = rowAt stationAt stationWidth stationCount stationsFrom;
-    stores = rowAt storeAt storeWidth storeCount storesFrom;
-  }
+  machineIn =
+      standing (wordAt image 0) (rowAt operandAt registerWidth registerCount registersFrom) (rowAt bufferAt bufferWidth bufferCount buffersFrom)
+      (rowAt stationAt stationWidth stationCount stationsFrom) (rowAt storeAt storeWidth storeCount storesFrom)
 
 -- WRITING
 abbrev pub operandWords : Operand Float → List ℕ

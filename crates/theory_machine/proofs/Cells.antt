@@ -9,10 +9,10 @@ use lib.ListN.{length, getD, set, List·getD-map, length-set}
 use lib.Seq.{getD-set-same, getD-set-other}
 use Rattle.theory_machine.specs.Tags.{registerCount, bufferTag, stationTag}
 use Rattle.theory_machine.specs.Instruction.{Instruction, noInstruction, load, store, copy, cellArithmetic, registerArithmetic}
-use Rattle.theory_machine.specs.Machine.{Kind, Lent, Operand, num, tag, Buffer, waiting, Station, holding, StoreBuffer, freeStore, live, Machine, Shape, storeAt, registerAt, storeCell}
+use Rattle.theory_machine.specs.Machine.{Kind, Lent, Operand, num, tag, Buffer, waiting, Station, holding, StoreBuffer, freeStore, live, Machine, nextIs, storesAre, putStore, Shape, storeAt, registerAt, storeCell}
 use Rattle.theory_machine.specs.GoodOrder.{giverOf}
-use Rattle.theory_machine.specs.Issue.{onward, instructionAt}
-use Rattle.theory_machine.specs.Steps.{putStore, giveStore}
+use Rattle.theory_machine.specs.Issue.{instructionAt}
+use Rattle.theory_machine.specs.Steps.{giveStore}
 use Rattle.theory_machine.specs.OneAtATime.{Run, value}
 use Rattle.theory_machine.specs.Asked.{written}
 use Rattle.words.proofs.Known.{eqb-cases}
@@ -54,9 +54,9 @@ module _ (K : Kind) (L : Lent (K .Num)) (start : Run (K .Num)) where
     cell-same k c = ap (λ (l : List (K .Num)). getD l c (K .nought)) k
 
     -- an issue that stores nothing leaves the run's cells
-    quiet-issue : (rs : List (Operand (K .Num))) (bs : List (Buffer (K .Num))) (ss : List (Station (K .Num))) → at K L start (suc q) .cells ≡ at K L start q .cells
-        → Inv K (right K L start (suc q)) (onward m rs bs ss (m .stores)) → Right (onward m rs bs ss (m .stores)) cells
-    quiet-issue rs bs ss k I = record {
+    quiet-issue : (n : Machine (K .Num)) → at K L start (suc q) .cells ≡ at K L start q .cells
+        → let after = storesAre (nextIs n (suc q)) (m .stores) in Inv K (right K L start (suc q)) after → Right after cells
+    quiet-issue n k I = record {
       inv = I;
       pending = λ i. one (storeAt m i) (R .pending i);
       settled = λ c h. R .settled c h ∙ sym (cell-same k c);
@@ -103,14 +103,10 @@ module _ (K : Kind) (L : Lent (K .Num)) (start : Run (K .Num)) where
     issue-right : (i : Instruction) (b s t : ℕ) → instructionAt K L q ≡ i → Room m i b s t → WellFormed (length (L .operands)) (L .results) i
         → Inv K (right K L start (suc q)) (issued K m i b s t) → Right (issued K m i b s t) cells
     issue-right noInstruction b s t e r w I = absurd r
-    issue-right (load a c) b s t e r w I = quiet-issue (set (m .registers) a (tag (bufferTag b))) (set (m .buffers) b (waiting q c)) (m .stations) (rw e) I
-    issue-right (copy a x) b s t e r w I = quiet-issue (set (m .registers) a (registerAt K m x)) (m .buffers) (m .stations) (rw e) I
-    issue-right (cellArithmetic o a c) b s t e r w I =
-        quiet-issue (set (m .registers) a (tag (stationTag s))) (set (m .buffers) b (waiting q c))
-        (set (m .stations) s (holding q o (registerAt K m a) (tag (bufferTag b)))) (rw e) I
-    issue-right (registerArithmetic o a x) b s t e r w I =
-        quiet-issue (set (m .registers) a (tag (stationTag s))) (m .buffers)
-        (set (m .stations) s (holding q o (registerAt K m a) (registerAt K m x))) (rw e) I
+    issue-right (load a c) b s t e r w I = quiet-issue (issued K m (load a c) b s t) (rw e) I
+    issue-right (copy a x) b s t e r w I = quiet-issue (issued K m (copy a x) b s t) (rw e) I
+    issue-right (cellArithmetic o a c) b s t e r w I = quiet-issue (issued K m (cellArithmetic o a c) b s t) (rw e) I
+    issue-right (registerArithmetic o a x) b s t e r w I = quiet-issue (issued K m (registerArithmetic o a x) b s t) (rw e) I
     issue-right (store a c) b s t e r w I = store-issue a c b s t e (cell-in-area (L .results) c (w .1)) r I
 
     -- a grant leaves what is pending and what is settled

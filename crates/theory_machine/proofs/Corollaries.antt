@@ -12,7 +12,8 @@ use Rattle.theory_machine.specs.Tags.{registerCount, slotOf}
 use Rattle.theory_machine.specs.Instruction.{decode}
 use Rattle.theory_machine.specs.Machine.{Kind, Lent, Machine}
 use Rattle.theory_machine.specs.GoodOrder.{giver, goodOrder, nothingLive, drained}
-use Rattle.theory_machine.specs.Steps.{stepOf, perform, inOrder, step}
+use Rattle.theory_machine.specs.Codes.{stepOf}
+use Rattle.theory_machine.specs.Steps.{perform, inOrder, step}
 use Rattle.theory_machine.specs.Count.{wordsLeft}
 use Rattle.theory_machine.specs.OneAtATime.{Run}
 use Rattle.theory_machine.specs.Entries.{listRefusal, fresh, stepsLeft, lowestStep}

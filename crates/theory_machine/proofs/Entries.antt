@@ -12,7 +12,8 @@ use native.Mathlib.Nat.{le-of-eq}
 use borrow.Author.Tests.{ltb-true, ltb-false, eqb-true, le-ltb, eq-eqb, ne-eqb}
 use Rattle.words.specs.Instructions.{listLimit}
 use Rattle.theory_machine.specs.Rows.{first}
-use Rattle.theory_machine.specs.Tags.{registerCount, bufferCount, stationCount, storeCount, codeLimit}
+use Rattle.theory_machine.specs.Tags.{registerCount, bufferCount, stationCount, storeCount}
+use Rattle.theory_machine.specs.Codes.{codeLimit}
 use Rattle.theory_machine.specs.Machine.{Kind, Lent, num, Buffer, freeBuffer, Station, freeStation, StoreBuffer, freeStore, Machine, Shape, storeCell}
 use Rattle.theory_machine.specs.Issue.{isTaken}
 use Rattle.theory_machine.specs.Steps.{perform, inOrder, step}

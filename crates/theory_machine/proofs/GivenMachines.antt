@@ -6,7 +6,8 @@ use Rattle.theory_machine.specs.Tags.{slotOf}
 use Rattle.theory_machine.specs.Instruction.{decode}
 use Rattle.theory_machine.specs.Machine.{Kind}
 use Rattle.theory_machine.specs.GoodOrder.{giver, goodOrder}
-use Rattle.theory_machine.specs.Steps.{stepOf, perform, step}
+use Rattle.theory_machine.specs.Codes.{stepOf}
+use Rattle.theory_machine.specs.Steps.{perform, step}
 use Rattle.theory_machine.specs.GivenMachines.{GivenClaim, IssueClaim}
 
 pub given-claim : (K : Kind) (v : K .Num) → GivenClaim K v

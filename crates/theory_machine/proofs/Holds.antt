@@ -9,9 +9,9 @@ use lib.ListN.{getD, set, List·getD-map}
 use borrow.Author.Tests.{eqb-true, eqb-false}
 use Rattle.numbers.specs.declared.Operation.{Operation}
 use Rattle.theory_machine.specs.Tags.{bufferCount, stationCount, bufferTag, stationTag}
-use Rattle.theory_machine.specs.Machine.{Kind, Lent, Operand, num, tag, Buffer, freeBuffer, waiting, full, Station, freeStation, holding, done, StoreBuffer, freeStore, live, Machine, bufferAt, stationAt, storeAt, registerAt}
+use Rattle.theory_machine.specs.Machine.{Kind, Lent, Operand, num, tag, Buffer, freeBuffer, waiting, full, Station, freeStation, holding, done, StoreBuffer, freeStore, live, Machine, putBuffer, putStation, putStore, bufferAt, stationAt, storeAt, registerAt}
 use Rattle.theory_machine.specs.GoodOrder.{Giver, nobody, fromBuffer, fromStation, isSome, giver, giverOf}
-use Rattle.theory_machine.specs.Steps.{putBuffer, putStation, putStore, give, giveStation, giveStore, granted, operandCell}
+use Rattle.theory_machine.specs.Steps.{give, giveStation, giveStore, granted, operandCell}
 use Rattle.theory_machine.proofs.Rows.{set-all}
 use Rattle.theory_machine.proofs.Givers.{Grows, SameBut, same-buffer, same-station, but-buffer, but-station, giver-given, giver-buffer, giver-station}
 

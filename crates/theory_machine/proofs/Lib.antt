@@ -1,5 +1,6 @@
 pub mod Rows
 pub mod Tags
+pub mod Codes
 pub mod Words
 pub mod Givers
 pub mod Holds

@@ -16,10 +16,11 @@ use Rattle.theory_machine.specs.Instruction.{Instruction, noInstruction,
 use Rattle.theory_machine.specs.Machine.{Kind, Lent, num, tag, Buffer, freeBuffer, waiting, full, Station, freeStation, holding, done, StoreBuffer, freeStore, live, Machine, Record, bufferAt, stationAt, storeAt, isFreeBuffer, isFreeStation, isFreeStore, storeCell}
 use Rattle.theory_machine.specs.GoodOrder.{hasCell}
 use Rattle.theory_machine.specs.Issue.{Answer, refused, taken, lowestBuffer, lowestStation, lowestStore, cellLive, withSlot, withBoth, loaded, withCell, withRegister, storing, issueOf, wordAt, instructionAt, refusalOf, issueNext}
-use Rattle.theory_machine.specs.Steps.{Step, unknownCode, issue, arrival, completion, bufferGrant, stationGrant, release, stepOf, grantBuffer, grantStation, releaseStore, arrive, complete, performStep, perform, inOrder, step}
+use Rattle.theory_machine.specs.Codes.{Step, unknownCode, issue, arrival, completion, bufferGrant, stationGrant, release, stepOf}
+use Rattle.theory_machine.specs.Steps.{grantBuffer, grantStation, releaseStore, arrive, complete, performStep, perform, inOrder, step}
 use Rattle.theory_machine.specs.Statement.{RefusedChangesNothing}
 use Rattle.theory_machine.proofs.Rows.{cond-cases, and-l, and-r, absurd-bool, allBelow-at, first-some}
-use Rattle.theory_machine.proofs.Tags.{InRange, in-range}
+use Rattle.theory_machine.proofs.Codes.{InRange, in-range}
 use Rattle.theory_machine.proofs.Words.{WellFormed, word-formed}
 use Rattle.theory_machine.proofs.Issue.{BufferRoom, StationRoom, StoreRoom, Room, issued}
 

@@ -11,15 +11,17 @@ use borrow.Author.Tests.{ltb-true, eqb-true, lt-leb, eq-eqb}
 use Rattle.numbers.specs.declared.Operation.{Operation}
 use Rattle.numbers.specs.declared.Operation.the-variants.{Add, Subtract, Multiply, Divide}
 use Rattle.theory_machine.specs.Rows.{allBelow}
-use Rattle.theory_machine.specs.Tags.{bufferCount, stationCount, storeCount, Slot, neither, buffer, station, slotOf, suits, codeLimit}
+use Rattle.theory_machine.specs.Tags.{bufferCount, stationCount, storeCount, Slot, neither, buffer, station, slotOf, suits}
 use Rattle.theory_machine.specs.Instruction.{Instruction, noInstruction, load, store, copy, cellArithmetic, registerArithmetic}
 use Rattle.theory_machine.specs.Machine.{Kind, Lent, num, tag, Buffer, freeBuffer, waiting, full, Station, freeStation, holding, done, StoreBuffer, freeStore, live, Machine, Shape, bufferAt, stationAt, storeAt, isFreeBuffer, isFreeStation, isFreeStore, storeCell}
 use Rattle.theory_machine.specs.GoodOrder.{fromStation, bufferGiver, stationGiver, giverIn, giver, giverOf, hasCell, before, nothingLive, drained}
 use Rattle.theory_machine.specs.Issue.{lowestBuffer, lowestStation, lowestStore, cellLive, issueOf, wordAt, instructionAt, refusalOf}
-use Rattle.theory_machine.specs.Steps.{Step, issue, arrival, completion, bufferGrant, stationGrant, release, stepOf, performStep, perform}
+use Rattle.theory_machine.specs.Codes.{firstCode, lastCode, codeTable, codeLimit}
+use Rattle.theory_machine.specs.Steps.{performStep, perform}
 use Rattle.words.proofs.Known.{eqb-cases}
 use Rattle.theory_machine.proofs.Rows.{bool-cases, and-l, and-r, and-i, absurd-bool, allBelow-of, allBelow-not, first-found, row-of}
-use Rattle.theory_machine.proofs.Tags.{firstArrival, firstCompletion, firstBufferGrant, firstStationGrant, firstRelease, SlotView, is-buffer, is-station, slot-view, arrival-code, completion-code, buffer-grant-code, station-grant-code, release-code, issue-code}
+use Rattle.theory_machine.proofs.Tags.{SlotView, is-buffer, is-station, slot-view}
+use Rattle.theory_machine.proofs.Codes.{rowIn, code-of, code-limited, ofIssue, ofArrival, ofCompletion, ofBufferGrant, ofStationGrant, ofRelease}
 use Rattle.theory_machine.proofs.Words.{WellFormed, word-formed, Passes}
 use Rattle.theory_machine.proofs.Holds.{Names, StationOk, StoreOk}
 use Rattle.theory_machine.proofs.Moves.{free-buffer, free-station, free-store, Move, issuing, arriving, completing, grantingBuffer, grantingStation, releasing}
@@ -33,14 +35,21 @@ module _ (K : Kind) (L : Lent (K .Num)) (m : Machine (K .Num)) where
     pub known : code < codeLimit
     pub permitted : perform K L m code .refusal ≡ 0
 
-  by : {lo : ℕ} (c : ℕ) (s : Step) → lo ≤ c → c < codeLimit → stepOf c ≡ s → performStep K L m s .refusal ≡ 0 → Goes lo
+  -- the code of slot i in row k of the table
+  by : {lo : ℕ} (k i : ℕ) → k < length codeTable → lo ≤ firstCode (rowIn codeTable k) → firstCode (rowIn codeTable k) + i ≤ lastCode (rowIn codeTable k)
+      → performStep K L m (rowIn codeTable k .step i) .refusal ≡ 0 → Goes lo
   unfolding perform
-  by c s l h e k = record { code = c; from = l; known = h; permitted = rw e k }
+  by k i known l h p = record {
+    code = firstCode (rowIn codeTable k) + i;
+    from = omega arith;
+    known = omega (arith, code-limited k known);
+    permitted = rw (code-of k known i h) p;
+  }
 
   buffer-goes : (i : ℕ) → i < bufferCount → (b : Buffer (K .Num)) → bufferAt m i ≡ b → isFreeBuffer b ≡ false → Goes 1
   buffer-goes i h freeBuffer e k = absurd-bool refl k
-  buffer-goes i h (waiting p c) e k = by (firstArrival + i) (arrival i) (omega arith) (omega arith) (arrival-code i h) (rw e)
-  buffer-goes i h (full p v) e k = by (firstBufferGrant + i) (bufferGrant i) (omega arith) (omega arith) (buffer-grant-code i h) (rw e)
+  buffer-goes i h (waiting p c) e k = by ofArrival i (omega arith) (omega arith) (omega arith) (rw e)
+  buffer-goes i h (full p v) e k = by ofBufferGrant i (omega arith) (omega arith) (omega arith) (rw e)
 
   module _ (g : Good K L m) where
     -- every live station of place below n leads to a permitted step
@@ -76,10 +85,10 @@ module _ (K : Kind) (L : Lent (K .Num)) (m : Machine (K .Num)) where
 
         go : (s : Station (K .Num)) → stationAt m i ≡ s → StationOk (orderly K L (m .next)) (giverOf m) i s → stationGiver s ≡ fromStation p → Goes 1
         go freeStation q w e = absurd (let z : _≡_ {A = ℕ} 0 1 = cc in omega arith)
-        go (holding p′ o (num x) (num y)) q w e = by (firstCompletion + i) (completion i) (omega arith) (omega arith) (completion-code i h) (rw q)
+        go (holding p′ o (num x) (num y)) q w e = by ofCompletion i (omega arith) (omega arith) (omega arith) (rw q)
         go (holding p′ o (num x) (tag t)) q w e = tag-goes p′ (less p′ (cc)) t (w .2)
         go (holding p′ o (tag t) y) q w e = tag-goes p′ (less p′ (cc)) t (w .1)
-        go (done p′ v) q w e = by (firstStationGrant + i) (stationGrant i) (omega arith) (omega arith) (station-grant-code i h) (rw q)
+        go (done p′ v) q w e = by ofStationGrant i (omega arith) (omega arith) (omega arith) (rw q)
 
     stations-go : (n : ℕ) → StationsBelow n
     stations-go zero = λ i h p e k. absurd (omega arith)
@@ -93,7 +102,7 @@ module _ (K : Kind) (L : Lent (K .Num)) (m : Machine (K .Num)) where
     store-goes : (i : ℕ) → i < storeCount → (s : StoreBuffer (K .Num)) → storeAt m i ≡ s → StoreOk (orderly K L (m .next)) (giverOf m) s
         → isFreeStore s ≡ false → Goes 1
     store-goes i h freeStore e w k = absurd-bool refl k
-    store-goes i h (live p c (num v)) e w k = by (firstRelease + i) (release i) (omega arith) (omega arith) (release-code i h) (rw e)
+    store-goes i h (live p c (num v)) e w k = by ofRelease i (omega arith) (omega arith) (omega arith) (rw e)
     store-goes i h (live p c (tag t)) e w k = tag-goes p (stations-go p) t (w .1)
 
     -- AS LONG AS ANYTHING IS LIVE a step that is no issue is permitted
@@ -193,7 +202,7 @@ module _ (K : Kind) (L : Lent (K .Num)) (m : Machine (K .Num)) where
 
     next-goes : Passes K L → m .next < length (L .words) → Goes K L m 0
     next-goes P h =
-        by K L m 0 issue (omega arith) (omega arith) issue-code
+        by K L m ofIssue 0 (omega arith) (omega arith) (omega arith)
         (rw (lt-leb (length (L .words)) (m .next) h, eq-eqb (refusalOf K L (wordAt K L (m .next))) 0 (P .sound (m .next) h))
         (issue-goes (instructionAt K L (m .next)) (word-formed (length (L .operands)) (L .results) (wordAt K L (m .next)) (P .sound (m .next) h))))
 

@@ -11,7 +11,7 @@ use Rattle.theory_machine.specs.Machine.{Kind, Lent}
 use Rattle.theory_machine.specs.GoodOrder.{Giver, nobody, fromBuffer, fromStation}
 use Rattle.theory_machine.specs.Issue.{instructionAt}
 use Rattle.theory_machine.specs.Steps.{operandCell}
-use Rattle.theory_machine.specs.OneAtATime.{Run, value, putRegister, execute, runTo}
+use Rattle.theory_machine.specs.OneAtATime.{Run, value, registerTakes, execute, runTo}
 use Rattle.theory_machine.proofs.Words.{WellFormed}
 use Rattle.theory_machine.proofs.Holds.{Holder, register, sink, source, stored, Reading, Laws}
 use Rattle.theory_machine.proofs.Issue.{Enough, Widens, Issues}
@@ -117,10 +117,10 @@ module _ (K : Kind) (L : Lent (K .Num)) (start : Run (K .Num)) where
 
   module _ (four : length (start .registers) ≡ registerCount) where
     -- R1 after it takes v, and any other register
-    put-same : (n r : ℕ) (v : K .Num) → r < registerCount → value K (putRegister K (at n) r v) r ≡ v
+    put-same : (n r : ℕ) (v : K .Num) → r < registerCount → value K (registerTakes K (at n) r v) r ≡ v
     put-same n r v h = getD-set-same (at n .registers) r v (K .nought) (omega (arith, registers-kept n))
 
-    put-other : (n r : ℕ) (v : K .Num) (j : ℕ) → j ≢ r → value K (at n) j ≡ value K (putRegister K (at n) r v) j
+    put-other : (n r : ℕ) (v : K .Num) (j : ℕ) → j ≢ r → value K (at n) j ≡ value K (registerTakes K (at n) r v) j
     put-other n r v j d = sym (getD-set-other (at n .registers) r j v (K .nought) d)
 
     pub issues : (q : ℕ) (i : Instruction) → instructionAt K L q ≡ i → WellFormed (length (L .operands)) (L .results) i

@@ -63,6 +63,9 @@ inside lo hi x a b = and-i (le-leb lo x a) (le-leb x hi b)
 pub above : (lo hi x : ℕ) → hi < x → between lo hi x ≡ false
 above lo hi x a = ⊎-elim (λ (e : leb lo x ≡ true). rw (e, lt-leb x hi a)) (λ (e : leb lo x ≡ false). rw e) (bool-cases (leb lo x))
 
+pub beneath : (lo hi x : ℕ) → x < lo → between lo hi x ≡ false
+beneath lo hi x a = rw (lt-leb lo x a)
+
 pub within : (lo hi x : ℕ) → between lo hi x ≡ true → (lo ≤ x) × (x ≤ hi)
 within lo hi x e = (leb-true lo x (and-l (leb lo x) (leb x hi) e), leb-true x hi (and-r (leb lo x) (leb x hi) e))
 

@@ -7,8 +7,9 @@ use lib.Dec.{eqb}
 use lib.ListN.{length, replicate}
 use Rattle.words.specs.Check.{listCheck}
 use Rattle.theory_machine.specs.Rows.{first}
-use Rattle.theory_machine.specs.Tags.{registerCount, bufferCount, stationCount, storeCount, codeLimit}
-use Rattle.theory_machine.specs.Machine.{Kind, Lent, num, freeBuffer, freeStation, freeStore, Machine}
+use Rattle.theory_machine.specs.Tags.{registerCount, bufferCount, stationCount, storeCount}
+use Rattle.theory_machine.specs.Codes.{codeLimit}
+use Rattle.theory_machine.specs.Machine.{Kind, Lent, num, freeBuffer, freeStation, freeStore, Machine, standing}
 use Rattle.theory_machine.specs.Issue.{isTaken}
 use Rattle.theory_machine.specs.Steps.{perform, inOrder}
 use Rattle.theory_machine.specs.Count.{countLeft}
@@ -32,13 +33,8 @@ pub record LowestStep : Type 0 where
 
 -- at place 0 with nothing live
 abbrev pub emptyMachine : {A : Type 0} → List A → Machine A
-emptyMachine numbers = record {
-  next = 0;
-  registers = map num numbers;
-  buffers = replicate bufferCount freeBuffer;
-  stations = replicate stationCount freeStation;
-  stores = replicate storeCount freeStore;
-}
+emptyMachine numbers =
+    standing 0 (map num numbers) (replicate bufferCount freeBuffer) (replicate stationCount freeStation) (replicate storeCount freeStore)
 
 module _ (K : Kind) (L : Lent (K .Num)) where
   -- the list against its areas

@@ -3,11 +3,12 @@
 use mathlib.Core.Path.{_≡_}
 use mathlib.Core.List.{List, [], _∷_, _++_, map}
 use Prim.Native.Nat.{ℕ}
-use lib.ListN.{set, replicate}
+use lib.ListN.{replicate}
 use Rattle.numbers.specs.declared.Operation.the-variants.{Add, Subtract, Multiply, Divide}
-use Rattle.theory_machine.specs.Machine.{Kind, Lent, Operand, num, tag, freeBuffer, waiting, full, freeStation, holding, done, freeStore, live, Machine}
+use Rattle.theory_machine.specs.Tags.{registerCount, bufferCount, stationCount}
+use Rattle.theory_machine.specs.Machine.{Kind, Lent, num, tag, freeBuffer, waiting, full, freeStation, holding, done, freeStore, live, Machine, standing, nextIs, putRegister, putBuffer, putStation, putStore}
 use Rattle.theory_machine.specs.Issue.{taken, loaded, withCell, withRegister, storing}
-use Rattle.theory_machine.specs.Steps.{putBuffer, putStation, putStore, step}
+use Rattle.theory_machine.specs.Steps.{step}
 use Rattle.theory_machine.specs.Entries.{emptyMachine}
 
 pub record Row (A : Type 0) : Type 0 where
@@ -30,18 +31,9 @@ module _ (K : Kind) (v : K .Num) where
   abbrev wide : Lent (K .Num)
   wide = record { words = replicate 4 65536; operands = replicate 300 v; results = 300 }
 
-  -- the next place, and slots by their index
+  -- nothing live, at this next place
   abbrev at : ℕ → Machine (K .Num)
-  at n = record {
-    next = n;
-    registers = emptyMachine (replicate 4 v) .registers;
-    buffers = emptyMachine (replicate 4 v) .buffers;
-    stations = emptyMachine (replicate 4 v) .stations;
-    stores = emptyMachine (replicate 4 v) .stores;
-  }
-
-  abbrev register : Machine (K .Num) → (i : ℕ) → Operand (K .Num) → Machine (K .Num)
-  register m i o = record { next = m .next; registers = set (m .registers) i o; buffers = m .buffers; stations = m .stations; stores = m .stores }
+  at n = nextIs (emptyMachine (replicate registerCount v)) n
 
   abbrev inside : Machine (K .Num) → (code : ℕ) → Row (K .Num)
   inside m code = record { lent = lent; machine = m; code = code; refusal = 0 }
@@ -74,16 +66,16 @@ module _ (K : Kind) (v : K .Num) where
 
   abbrev pub nameRows : List (Row (K .Num))
   nameRows =
-      inside (register live4 0 (tag 1)) 49
-      ∷ inside (register live4 3 (tag 6)) 49
-      ∷ inside (register live4 1 (tag 8)) 49
-      ∷ inside (register live4 2 (tag 12)) 49
-      ∷ outside (register live4 0 (tag 2)) 49
-      ∷ outside (register live4 3 (tag 5)) 49
-      ∷ outside (register live4 1 (tag 7)) 49
-      ∷ outside (register live4 2 (tag 9)) 49
-      ∷ outside (register live4 0 (tag 0)) 49
-      ∷ outside (register live4 0 (tag 13)) 49
+      inside (putRegister live4 0 (tag 1)) 49
+      ∷ inside (putRegister live4 3 (tag 6)) 49
+      ∷ inside (putRegister live4 1 (tag 8)) 49
+      ∷ inside (putRegister live4 2 (tag 12)) 49
+      ∷ outside (putRegister live4 0 (tag 2)) 49
+      ∷ outside (putRegister live4 3 (tag 5)) 49
+      ∷ outside (putRegister live4 1 (tag 7)) 49
+      ∷ outside (putRegister live4 2 (tag 9)) 49
+      ∷ outside (putRegister live4 0 (tag 0)) 49
+      ∷ outside (putRegister live4 0 (tag 13)) 49
       ∷ inside (putStation live4 2 (holding 1 Add (tag 1) (tag 12))) 49
       ∷ outside (putStation live4 2 (holding 1 Add (tag 3) (num v))) 49
       ∷ outside (putStation live4 2 (holding 1 Add (num v) (tag 11))) 49
@@ -113,7 +105,7 @@ module _ (K : Kind) (v : K .Num) where
       ∷ inside (putStore station2 0 (live 3 0 (tag 9))) 57
       ∷ outside (putStore station2 0 (live 2 0 (tag 9))) 57
       -- "For a register's tag only the naming rule applies.": station 9 is of the last place issued
-      ∷ inside (register (putStation (at 3) 1 (done 2 v)) 0 (tag 9)) 57
+      ∷ inside (putRegister (putStation (at 3) 1 (done 2 v)) 0 (tag 9)) 57
       ∷ []
 
   -- "add stations hold only add and subtract, the other two only multiply and divide"
@@ -159,7 +151,7 @@ module _ (K : Kind) (v : K .Num) where
       ∷ inside (putBuffer (putBuffer (at 1) 0 (waiting 0 0)) 3 (waiting 0 1)) 20
       ∷ inside (putBuffer (at 4) 2 (full 0 (K .apply Add v v))) 51
       ∷ inside (at 3) 0
-      ∷ inside (register (register live4 0 (tag 12)) 1 (tag 12)) 60
+      ∷ inside (putRegister (putRegister live4 0 (tag 12)) 1 (tag 12)) 60
       ∷ []
 
   -- "Order for one step: 1, 6, 5; for an issue at the list's end 7, else 2, 3, 4 for that word, then 7"
@@ -171,21 +163,17 @@ module _ (K : Kind) (v : K .Num) where
 
   -- every slot is taken, by the first of two words
   abbrev busy : Machine (K .Num)
-  busy = record {
-    next = 1;
-    registers = at 1 .registers;
-    buffers = replicate 6 (full 0 v);
-    stations = replicate 5 (done 0 v);
-    stores = live 0 0 (num v) ∷ live 0 1 (num v) ∷ live 0 2 (num v) ∷ [];
-  }
+  busy =
+      standing 1 (at 1 .registers) (replicate bufferCount (full 0 v)) (replicate stationCount (done 0 v))
+      (live 0 0 (num v) ∷ live 0 1 (num v) ∷ live 0 2 (num v) ∷ [])
 
   abbrev second : (word refusal : ℕ) → Row (K .Num)
   second w n = record { lent = record { words = 65536 ∷ w ∷ []; operands = replicate 2 v; results = 3 }; machine = busy; code = 0; refusal = n }
 
   abbrev pub refusalRows : List (Row (K .Num))
   refusalRows =
-      record { lent = tooLong; machine = register (at 0) 0 (tag 1); code = 23; refusal = 1 }
-      ∷ record { lent = lent; machine = register (at 0) 0 (tag 1); code = 23; refusal = 6 }
+      record { lent = tooLong; machine = putRegister (at 0) 0 (tag 1); code = 23; refusal = 1 }
+      ∷ record { lent = lent; machine = putRegister (at 0) 0 (tag 1); code = 23; refusal = 6 }
       ∷ record { lent = lent; machine = at 0; code = 23; refusal = 5 }
       ∷ record { lent = lent; machine = at 4; code = 0; refusal = 7 }
       ∷ record { lent = word 786432; machine = at 1; code = 0; refusal = 7 }
@@ -213,13 +201,7 @@ module _ (K : Kind) (v : K .Num) where
 
   -- "Issue, always using the lowest-numbered free one": some slots are taken, and the issue takes the slot whose index stands here
   abbrev some : Machine (K .Num)
-  some = record {
-    next = 1;
-    registers = at 1 .registers;
-    buffers = set (set (replicate 6 (full 0 v)) 2 freeBuffer) 4 freeBuffer;
-    stations = set (set (replicate 5 (done 0 v)) 1 freeStation) 3 freeStation;
-    stores = live 0 0 (num v) ∷ freeStore ∷ freeStore ∷ [];
-  }
+  some = putStore (putStore (putStation (putStation (putBuffer (putBuffer busy 2 freeBuffer) 4 freeBuffer) 1 freeStation) 3 freeStation) 1 freeStore) 2 freeStore
 
   abbrev pub issueTable : List (IssueRow (K .Num))
   issueTable =

@@ -1,16 +1,15 @@
 -- Document 01, "Issue, always using the lowest-numbered free one".
 use mathlib.Core.Bool.{Bool, cond, not, _&&_}
 use mathlib.Core.Option.{Option, none, some}
-use mathlib.Core.List.{List}
 use Prim.Native.Nat.{ℕ, suc}
 use lib.Dec.{leb, eqb}
-use lib.ListN.{length, getD, set}
+use lib.ListN.{length, getD}
 use Rattle.numbers.specs.declared.Operation.{Operation}
 use Rattle.words.specs.Check.{wordRefusal}
 use Rattle.theory_machine.specs.Rows.{allBelow, first}
 use Rattle.theory_machine.specs.Tags.{bufferCount, stationCount, storeCount, bufferTag, stationTag, suits}
 use Rattle.theory_machine.specs.Instruction.{Instruction, noInstruction, load, store, copy, cellArithmetic, registerArithmetic, decode}
-use Rattle.theory_machine.specs.Machine.{Kind, Lent, Operand, tag, Buffer, waiting, Station, holding, StoreBuffer, live, Machine, Record, bufferAt, stationAt, storeAt, registerAt, isFreeBuffer, isFreeStation, isFreeStore, storeCell}
+use Rattle.theory_machine.specs.Machine.{Kind, Lent, tag, waiting, holding, live, Machine, Record, nextIs, putRegister, putBuffer, putStation, putStore, bufferAt, stationAt, storeAt, registerAt, isFreeBuffer, isFreeStation, isFreeStore, storeCell}
 use Rattle.theory_machine.specs.GoodOrder.{hasCell}
 
 -- AN ANSWER: the refusal number (0: accepted), the machine, and what was released, if anything
@@ -47,8 +46,8 @@ module _ {A : Type 0} where
   cellLive m c = not (allBelow storeCount (λ i. not (hasCell c (storeCell (storeAt m i)))))
 
   -- "next place grows by one"
-  abbrev pub onward : Machine A → List (Operand A) → List (Buffer A) → List (Station A) → List (StoreBuffer A) → Machine A
-  onward m rs bs ss ts = record { next = suc (m .next); registers = rs; buffers = bs; stations = ss; stores = ts }
+  abbrev pub onward : Machine A → Machine A
+  onward m = nextIs m (suc (m .next))
 
   -- what is needed is not there: "known step not permitted now"
   abbrev pub withSlot : Machine A → Option ℕ → ((i : ℕ) → Machine A) → Answer A
@@ -65,28 +64,28 @@ module _ (K : Kind) where
 
   -- "a free buffer, which then waits. R1 takes its tag."
   abbrev pub loaded : Machine (K .Num) → (r c b : ℕ) → Machine (K .Num)
-  loaded m r c b =
-      onward m (set (m .registers) r (tag (bufferTag b))) (set (m .buffers) b (waiting (m .next) c)) (m .stations) (m .stores)
+  loaded m r c b = onward (putRegister (putBuffer m b (waiting (m .next) c)) r (tag (bufferTag b)))
 
   -- "R1 becomes a copy of the other register, number or tag"
   abbrev pub copied : Machine (K .Num) → (r x : ℕ) → Machine (K .Num)
-  copied m r x = onward m (set (m .registers) r (registerAt K m x)) (m .buffers) (m .stations) (m .stores)
+  copied m r x = onward (putRegister m r (registerAt K m x))
 
   -- "The sink operand is R1 as it stands, the source is the buffer's tag; then R1 takes the station's tag."
   abbrev pub withCell : Machine (K .Num) → Operation → (r c b s : ℕ) → Machine (K .Num)
   withCell m o r c b s =
-      onward m (set (m .registers) r (tag (stationTag s))) (set (m .buffers) b (waiting (m .next) c))
-      (set (m .stations) s (holding (m .next) o (registerAt K m r) (tag (bufferTag b)))) (m .stores)
+      onward
+      (putRegister
+      (putStation (putBuffer m b (waiting (m .next) c)) s (holding (m .next) o (registerAt K m r) (tag (bufferTag b))))
+      r (tag (stationTag s)))
 
   -- "Both operands are read before R1 takes the tag."
   abbrev pub withRegister : Machine (K .Num) → Operation → (r x s : ℕ) → Machine (K .Num)
   withRegister m o r x s =
-      onward m (set (m .registers) r (tag (stationTag s))) (m .buffers)
-      (set (m .stations) s (holding (m .next) o (registerAt K m r) (registerAt K m x))) (m .stores)
+      onward (putRegister (putStation m s (holding (m .next) o (registerAt K m r) (registerAt K m x))) r (tag (stationTag s)))
 
   -- "It takes R1 as it stands."
   abbrev pub storing : Machine (K .Num) → (r c t : ℕ) → Machine (K .Num)
-  storing m r c t = onward m (m .registers) (m .buffers) (m .stations) (set (m .stores) t (live (m .next) c (registerAt K m r)))
+  storing m r c t = onward (putStore m t (live (m .next) c (registerAt K m r)))
 
   -- ISSUE OF AN INSTRUCTION: what each needs
   abbrev pub issueOf : Machine (K .Num) → Instruction → Answer (K .Num)

@@ -1,5 +1,6 @@
 pub mod Rows
 pub mod Tags
+pub mod Codes
 pub mod Instruction
 pub mod Machine
 pub mod GoodOrder

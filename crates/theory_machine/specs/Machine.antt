@@ -4,7 +4,7 @@ use mathlib.Core.Bool.{Bool, true, false}
 use mathlib.Core.Option.{Option, none, some}
 use mathlib.Core.List.{List}
 use Prim.Native.Nat.{ℕ}
-use lib.ListN.{length, getD}
+use lib.ListN.{length, getD, set}
 use Rattle.numbers.specs.declared.Operation.{Operation}
 use Rattle.theory_machine.specs.Tags.{registerCount, bufferCount, stationCount, storeCount}
 
@@ -61,6 +61,40 @@ pub record Record (A : Type 0) : Type 0 where
   pub place : ℕ
   pub cell : ℕ
   pub number : A
+
+-- A MACHINE OF THESE PARTS: with the record above, the one place that names all of them
+abbrev pub standing : {A : Type 0} → (next : ℕ) → List (Operand A) → List (Buffer A) → List (Station A) → List (StoreBuffer A) → Machine A
+standing next rs bs ss ts = record { next = next; registers = rs; buffers = bs; stations = ss; stores = ts }
+
+-- THE MACHINE WITH ONE PART CHANGED
+module _ {A : Type 0} (m : Machine A) where
+  abbrev pub nextIs : ℕ → Machine A
+  nextIs n = standing n (m .registers) (m .buffers) (m .stations) (m .stores)
+
+  abbrev pub registersAre : List (Operand A) → Machine A
+  registersAre rs = standing (m .next) rs (m .buffers) (m .stations) (m .stores)
+
+  abbrev pub buffersAre : List (Buffer A) → Machine A
+  buffersAre bs = standing (m .next) (m .registers) bs (m .stations) (m .stores)
+
+  abbrev pub stationsAre : List (Station A) → Machine A
+  stationsAre ss = standing (m .next) (m .registers) (m .buffers) ss (m .stores)
+
+  abbrev pub storesAre : List (StoreBuffer A) → Machine A
+  storesAre ts = standing (m .next) (m .registers) (m .buffers) (m .stations) ts
+
+  -- one slot of a row, by its index
+  abbrev pub putRegister : (i : ℕ) → Operand A → Machine A
+  putRegister i o = registersAre (set (m .registers) i o)
+
+  abbrev pub putBuffer : (i : ℕ) → Buffer A → Machine A
+  putBuffer i b = buffersAre (set (m .buffers) i b)
+
+  abbrev pub putStation : (i : ℕ) → Station A → Machine A
+  putStation i s = stationsAre (set (m .stations) i s)
+
+  abbrev pub putStore : (i : ℕ) → StoreBuffer A → Machine A
+  putStore i s = storesAre (set (m .stores) i s)
 
 -- THE ROWS, read by index
 module _ {A : Type 0} where

@@ -16,21 +16,21 @@ module _ (K : Kind) where
   abbrev pub value : Run (K .Num) → (r : ℕ) → K .Num
   value s r = getD (s .registers) r (K .nought)
 
-  abbrev pub putRegister : Run (K .Num) → (r : ℕ) → K .Num → Run (K .Num)
-  putRegister s r v = record { registers = set (s .registers) r v; cells = s .cells }
+  abbrev pub registerTakes : Run (K .Num) → (r : ℕ) → K .Num → Run (K .Num)
+  registerTakes s r v = record { registers = set (s .registers) r v; cells = s .cells }
 
-  abbrev pub putCell : Run (K .Num) → (c : ℕ) → K .Num → Run (K .Num)
-  putCell s c v = record { registers = s .registers; cells = set (s .cells) c v }
+  abbrev pub cellTakes : Run (K .Num) → (c : ℕ) → K .Num → Run (K .Num)
+  cellTakes s c v = record { registers = s .registers; cells = set (s .cells) c v }
 
   module _ (L : Lent (K .Num)) where
     -- "R1 takes the operand"; "R1 plus, minus, times, over operand to R1"; "R1 to the result cell"
     abbrev pub execute : Instruction → Run (K .Num) → Run (K .Num)
     execute noInstruction s = s
-    execute (load r c) s = putRegister s r (operandCell K L c)
-    execute (copy r x) s = putRegister s r (value s x)
-    execute (cellArithmetic o r c) s = putRegister s r (K .apply o (value s r) (operandCell K L c))
-    execute (registerArithmetic o r x) s = putRegister s r (K .apply o (value s r) (value s x))
-    execute (store r c) s = putCell s c (value s r)
+    execute (load r c) s = registerTakes s r (operandCell K L c)
+    execute (copy r x) s = registerTakes s r (value s x)
+    execute (cellArithmetic o r c) s = registerTakes s r (K .apply o (value s r) (operandCell K L c))
+    execute (registerArithmetic o r x) s = registerTakes s r (K .apply o (value s r) (value s x))
+    execute (store r c) s = cellTakes s c (value s r)
 
     -- after the first n instructions of the list
     abbrev pub runTo : Run (K .Num) → (n : ℕ) → Run (K .Num)

@@ -1,50 +1,18 @@
--- Document 01, "Steps": each step with its code, when it is permitted, and what it does.
+-- Document 01, "Steps": each step, when it is permitted, and what it does. (The codes: Codes.antt.)
 use mathlib.Core.Bool.{Bool, cond, not}
 use mathlib.Core.Option.{some}
 use mathlib.Core.List.{map}
-use Prim.Native.Nat.{ℕ, _+_, _-_}
+use Prim.Native.Nat.{ℕ}
 use lib.Dec.{ltb, eqb}
-use lib.ListN.{length, getD, set}
+use lib.ListN.{length, getD}
 use Rattle.words.specs.Instructions.{listLimit}
-use Rattle.theory_machine.specs.Rows.{between}
-use Rattle.theory_machine.specs.Tags.{firstBuffer, lastBuffer, firstStation, lastStation, firstStore, lastStore, bufferTag, stationTag, issueCode, arrivalCode, completionCode, grantCode, releaseCode}
-use Rattle.theory_machine.specs.Machine.{Kind, Lent, Operand, num, tag, Buffer, freeBuffer, waiting, full, Station, freeStation, holding, done, StoreBuffer, freeStore, live, Machine, bufferAt, stationAt, storeAt}
+use Rattle.theory_machine.specs.Tags.{bufferTag, stationTag}
+use Rattle.theory_machine.specs.Codes.{Step, unknownCode, issue, arrival, completion, bufferGrant, stationGrant, release, stepOf}
+use Rattle.theory_machine.specs.Machine.{Kind, Lent, Operand, num, tag, Buffer, freeBuffer, waiting, full, Station, freeStation, holding, done, StoreBuffer, freeStore, live, Machine, registersAre, stationsAre, storesAre, putBuffer, putStation, putStore, bufferAt, stationAt, storeAt}
 use Rattle.theory_machine.specs.GoodOrder.{goodOrder}
 use Rattle.theory_machine.specs.Issue.{Answer, refused, taken, issueNext}
 
--- a code, read: slots by their index
-pub data Step : Type 0 where
-  unknownCode issue : Step
-  arrival completion bufferGrant stationGrant release : (i : ℕ) → Step
-
--- base + lo to base + hi
-abbrev pub coded : (base lo hi : ℕ) → ((i : ℕ) → Step) → (code : ℕ) → Step → Step
-coded base lo hi step code other = cond (between (base + lo) (base + hi) code) (step (code - (base + lo))) other
-
--- the column "code": "0", "16+b, b 1 to 6", "32+u, u 8 to 12", "48+t, t 1 to 6, 8 to 12", "64+s, s 1 to 3"; "All other codes are unknown."
-unfoldable pub stepOf : (code : ℕ) → Step
-stepOf code =
-    cond (eqb code issueCode) issue
-    (coded arrivalCode firstBuffer lastBuffer arrival code
-    (coded completionCode firstStation lastStation completion code
-    (coded grantCode firstBuffer lastBuffer bufferGrant code
-    (coded grantCode firstStation lastStation stationGrant code
-    (coded releaseCode firstStore lastStore release code unknownCode)))))
-
--- ONE SLOT ALTERED
 module _ {A : Type 0} where
-  abbrev pub putBuffer : Machine A → (i : ℕ) → Buffer A → Machine A
-  putBuffer m i b =
-      record { next = m .next; registers = m .registers; buffers = set (m .buffers) i b; stations = m .stations; stores = m .stores }
-
-  abbrev pub putStation : Machine A → (i : ℕ) → Station A → Machine A
-  putStation m i s =
-      record { next = m .next; registers = m .registers; buffers = m .buffers; stations = set (m .stations) i s; stores = m .stores }
-
-  abbrev pub putStore : Machine A → (i : ℕ) → StoreBuffer A → Machine A
-  putStore m i s =
-      record { next = m .next; registers = m .registers; buffers = m .buffers; stations = m .stations; stores = set (m .stores) i s }
-
   -- A BUS GRANT: "every register, station and store operand with that tag takes the number"
 
   abbrev pub give : (t : ℕ) → A → Operand A → Operand A
@@ -61,13 +29,12 @@ module _ {A : Type 0} where
   giveStore t v (live p c x) = live p c (give t v x)
 
   abbrev pub granted : Machine A → (t : ℕ) → A → Machine A
-  granted m t v = record {
-    next = m .next;
-    registers = map (give t v) (m .registers);
-    buffers = m .buffers;
-    stations = map (giveStation t v) (m .stations);
-    stores = map (giveStore t v) (m .stores);
-  }
+  granted m t v =
+      storesAre
+      (stationsAre
+      (registersAre m (map (give t v) (m .registers)))
+      (map (giveStation t v) (m .stations)))
+      (map (giveStore t v) (m .stores))
 
   -- "buffer full"; "the giver is free"
   abbrev pub grantBuffer : Machine A → (i : ℕ) → Buffer A → Answer A

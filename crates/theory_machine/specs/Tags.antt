@@ -1,4 +1,4 @@
--- Document 01, "Tags and what the machine holds": the tags' numbers and limits, and those of the step codes, named once.
+-- Document 01, "Tags and what the machine holds": the tags' numbers and limits, named once.
 use mathlib.Core.Bool.{Bool, true, false, cond}
 use Prim.Native.Nat.{ℕ, _+_, _-_}
 use lib.Dec.{ltb}
@@ -79,23 +79,3 @@ isMultiplier i = ltb (stationTag i) firstAdder
 
 abbrev pub suits : (i : ℕ) → Operation → Bool
 suits i o = cond (isAddition o) (isAdder i) (isMultiplier i)
-
--- the codes: 0, 16+b, 32+u, 48+t, 64+s
-abbrev pub issueCode : ℕ
-issueCode = 0
-
-abbrev pub arrivalCode : ℕ
-arrivalCode = 16
-
-abbrev pub completionCode : ℕ
-completionCode = 32
-
-abbrev pub grantCode : ℕ
-grantCode = 48
-
-abbrev pub releaseCode : ℕ
-releaseCode = 64
-
--- every known code is below this: the highest is that of the last store buffer's release
-abbrev pub codeLimit : ℕ
-codeLimit = releaseCode + lastStore + 1

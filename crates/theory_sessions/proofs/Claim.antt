@@ -9,7 +9,8 @@ use Rattle.list_file.specs.Writing.{wordBytes}
 use Rattle.theory_machine.specs.Tags.{slotOf}
 use Rattle.theory_machine.specs.Instruction.{decode}
 use Rattle.theory_machine.specs.GoodOrder.{giver, goodOrder, nothingLive, drained}
-use Rattle.theory_machine.specs.Steps.{stepOf, perform, step}
+use Rattle.theory_machine.specs.Codes.{stepOf}
+use Rattle.theory_machine.specs.Steps.{perform, step}
 use Rattle.theory_machine.specs.Count.{countLeft}
 use Rattle.theory_machine.specs.Entries.{fresh, oneAtATime, stepsLeft, lowestPermitted, lowestStep}
 use Rattle.theory_run.specs.Run.{run, runFrom}

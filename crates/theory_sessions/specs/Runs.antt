@@ -3,9 +3,8 @@ use mathlib.Core.List.{List, [], _∷_}
 use Prim.Native.Nat.{ℕ}
 use lib.ListN.{replicate}
 use lib.Ieee.{Float}
-use Rattle.theory_machine.specs.Tags.{bufferCount, stationCount, storeCount}
-use Rattle.theory_machine.specs.Machine.{Lent, Operand, num, tag, freeBuffer, freeStation, freeStore, Machine}
-use Rattle.theory_machine.specs.Entries.{fresh}
+use Rattle.theory_machine.specs.Machine.{Lent, Operand, num, tag, Machine, nextIs, registersAre}
+use Rattle.theory_machine.specs.Entries.{emptyMachine, fresh}
 use Rattle.theory_machine.specs.Binary64.{binary64}
 use Rattle.theory_sessions.specs.Numbers.{n0, n1, n1·5, n2, n3·75}
 use Rattle.theory_sessions.specs.Scheduled.{Scheduled, RanSeen}
@@ -69,13 +68,7 @@ refusedList word n schedule = ran (fromFresh (65536 ∷ word ∷ []) two (n1 ∷
 
 -- a machine whose next place is past the list's end
 abbrev pastTheEnd : Machine Float
-pastTheEnd = record {
-  next = 4;
-  registers = f0 (num n1);
-  buffers = replicate bufferCount freeBuffer;
-  stations = replicate stationCount freeStation;
-  stores = replicate storeCount freeStore;
-}
+pastTheEnd = registersAre (nextIs (emptyMachine []) 4) (f0 (num n1))
 
 abbrev refusedMachine : (word refusal : ℕ) (schedule : List ℕ) → Row
 refusedMachine word n schedule =

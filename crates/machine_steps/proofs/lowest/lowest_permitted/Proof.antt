@@ -8,7 +8,7 @@ use borrow.Author.Tests.{eq-eqb, ne-eqb}
 use lib.Dec.{eqb}
 use lib.Ieee.{Float}
 use Rattle.theory_machine.specs.Rows.{first}
-use Rattle.theory_machine.specs.Tags.{codeLimit}
+use Rattle.theory_machine.specs.Codes.{codeLimit}
 use Rattle.theory_machine.specs.Issue.{isTaken}
 use Rattle.theory_machine.specs.Binary64.{binary64}
 use Rattle.theory_machine.specs.Steps.{perform}
