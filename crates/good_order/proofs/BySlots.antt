@@ -6,8 +6,9 @@ use mathlib.Core.List.{List, [], _∷_, map}
 use Prim.Native.Nat.{ℕ, zero, suc, _≤_, _<_}
 use native.Mathlib.Omega.{arith}
 use lib.Dec.{ltb, leb, eqb}
-use lib.ListN.{getD}
+use lib.ListN.{length, getD}
 use borrow.Author.Tests.{ltb-true, leb-true}
+use Rattle.words.specs.declared.Areas.{Areas}
 use Rattle.words.specs.Instructions.{isCell}
 use Rattle.theory_machine.specs.Rows.{allOf, allBelow}
 use Rattle.theory_machine.specs.Tags.{registerCount, bufferCount, stationCount, storeCount, suits}
@@ -116,13 +117,13 @@ module _ {A : Type 0} (m : Machine A) where
       (λ k. rw (operand-rules p x k, and-true (heldAt m p x)))
 
 -- THE MACHINE, of which the list is no longer than never
-module _ (K : Kind) (list operands results : ℕ) (m : Machine (K .Num)) (short : list ≤ never) where
+module _ (K : Kind) (words : List ℕ) (areas : Areas) (m : Machine (K .Num)) (short : length words ≤ never) where
   abbrev n : ℕ
   n = m .next
 
   -- each clause, row by row
   record Rules : Type 0 where
-    pub next : leb n list ≡ true
+    pub next : leb n (length words) ≡ true
     pub bufferPlaces : allBelow bufferCount (λ i. placeBelow n (bufferPlace (bufferAt m i))) ≡ true
     pub stationPlaces : allBelow stationCount (λ i. placeBelow n (stationPlace (stationAt m i))) ≡ true
     pub storePlaces : allBelow storeCount (λ i. placeBelow n (storePlace (storeAt m i))) ≡ true
@@ -132,18 +133,18 @@ module _ (K : Kind) (list operands results : ℕ) (m : Machine (K .Num)) (short 
     pub stationsHeld : allBelow stationCount (λ i. stationHeld m (stationAt m i)) ≡ true
     pub storesHeld : allBelow storeCount (λ i. storeHeld m (storeAt m i)) ≡ true
     pub kinds : allBelow stationCount (λ i. kindFits i (stationAt m i)) ≡ true
-    pub bufferCells : allBelow bufferCount (λ i. cellIn operands (bufferCell (bufferAt m i))) ≡ true
-    pub storeCells : allBelow storeCount (λ i. cellIn results (storeCell (storeAt m i))) ≡ true
+    pub bufferCells : allBelow bufferCount (λ i. cellIn (areas .operands) (bufferCell (bufferAt m i))) ≡ true
+    pub storeCells : allBelow storeCount (λ i. cellIn (areas .results) (storeCell (storeAt m i))) ≡ true
     pub apart : storesApart K m ≡ true
 
-  of-clauses : goodOrder K list operands results m ≡ true → Rules
+  of-clauses : goodOrder K words areas m ≡ true → Rules
   unfolding goodOrder
   of-clauses e =
-      let t : (k : ℕ) → getD (clauses K list operands results m) k true ≡ true = allOf-at (clauses K list operands results m) e in
+      let t : (k : ℕ) → getD (clauses K words areas m) k true ≡ true = allOf-at (clauses K words areas m) e in
       let place = allOf-at (placeTests K m) (t 1) in
       let name = allOf-at (nameTests K m) (t 2) in
       let held = allOf-at (beforeTests K m) (t 3) in
-      let cells = allOf-at (cellTests K operands results m) (t 5) in
+      let cells = allOf-at (cellTests K areas m) (t 5) in
       record {
         next = t 0;
         bufferPlaces = place 0;
@@ -160,7 +161,7 @@ module _ (K : Kind) (list operands results : ℕ) (m : Machine (K .Num)) (short 
         apart = t 6;
       }
 
-  to-clauses : Rules → goodOrder K list operands results m ≡ true
+  to-clauses : Rules → goodOrder K words areas m ≡ true
   unfolding goodOrder
   to-clauses r =
       and-i (r .next)
@@ -173,7 +174,7 @@ module _ (K : Kind) (list operands results : ℕ) (m : Machine (K .Num)) (short 
 
   -- each row, by its rules
   abbrev bufferTests : List (ℕ → Bool)
-  bufferTests = (λ i. placeBelow n (bufferPlace (bufferAt m i))) ∷ (λ i. cellIn operands (bufferCell (bufferAt m i))) ∷ []
+  bufferTests = (λ i. placeBelow n (bufferPlace (bufferAt m i))) ∷ (λ i. cellIn (areas .operands) (bufferCell (bufferAt m i))) ∷ []
 
   abbrev stationTests : List (ℕ → Bool)
   stationTests =
@@ -186,25 +187,25 @@ module _ (K : Kind) (list operands results : ℕ) (m : Machine (K .Num)) (short 
   abbrev storeTests : List (ℕ → Bool)
   storeTests =
       (λ i. placeBelow n (storePlace (storeAt m i)))
-      ∷ (λ i. cellIn results (storeCell (storeAt m i)))
+      ∷ (λ i. cellIn (areas .results) (storeCell (storeAt m i)))
       ∷ (λ i. storeNamed m (storeAt m i))
       ∷ (λ i. storeHeld m (storeAt m i))
       ∷ []
 
-  buffers-row : buffersGood n operands (m .buffers) ≡ allOf (map (allBelow bufferCount) bufferTests)
-  buffers-row = in-rows bufferCount (λ i. bufferGood n operands (bufferAt m i)) bufferTests (λ i. buffer-rules m n operands (bufferAt m i))
+  buffers-row : buffersGood n (areas .operands) (m .buffers) ≡ allOf (map (allBelow bufferCount) bufferTests)
+  buffers-row = in-rows bufferCount (λ i. bufferGood n (areas .operands) (bufferAt m i)) bufferTests (λ i. buffer-rules m n (areas .operands) (bufferAt m i))
 
-  module _ (h : leb n list ≡ true) where
+  module _ (h : leb n (length words) ≡ true) where
     low : n ≤ never
-    low = omega (arith, leb-true n list h)
+    low = omega (arith, leb-true n (length words) h)
 
     stations-row : stationsGood (giverPlace m) n (m .stations) ≡ allOf (map (allBelow stationCount) stationTests)
     stations-row =
         in-rows stationCount (λ i. stationGood (giverPlace m) n i (stationAt m i)) stationTests (λ i. station-rules m n i (stationAt m i) low)
 
-    stores-row : storesGood (giverPlace m) n results (m .stores) ≡ allOf (map (allBelow storeCount) storeTests)
+    stores-row : storesGood (giverPlace m) n (areas .results) (m .stores) ≡ allOf (map (allBelow storeCount) storeTests)
     stores-row =
-        in-rows storeCount (λ i. storeGood (giverPlace m) n results (storeAt m i)) storeTests (λ i. store-rules m n results (storeAt m i) low)
+        in-rows storeCount (λ i. storeGood (giverPlace m) n (areas .results) (storeAt m i)) storeTests (λ i. store-rules m n (areas .results) (storeAt m i) low)
 
     registers-row : allBelow bufferCount (λ i. placeBelow n (bufferPlace (bufferAt m i))) ≡ true
         → allBelow stationCount (λ i. placeBelow n (stationPlace (stationAt m i))) ≡ true
@@ -213,9 +214,9 @@ module _ (K : Kind) (list operands results : ℕ) (m : Machine (K .Num)) (short 
         below-same registerCount (λ i. registerGood (giverPlace m) (registerAt K m i)) (λ i. named m (registerAt K m i))
         (λ i. register-rules m (registerAt K m i) (named-place (m .buffers) (m .stations) n low b s))
 
-  of-slots : goodBySlots K list operands results m ≡ true → Rules
+  of-slots : goodBySlots K words areas m ≡ true → Rules
   of-slots e =
-      let t : (k : ℕ) → getD (rowTests K list operands results m) k true ≡ true = allOf-at (rowTests K list operands results m) e in
+      let t : (k : ℕ) → getD (rowTests K words areas m) k true ≡ true = allOf-at (rowTests K words areas m) e in
       let buffer = allOf-at (map (allBelow bufferCount) bufferTests) (sym buffers-row ∙ t 1) in
       let station = allOf-at (map (allBelow stationCount) stationTests) (sym (stations-row (t 0)) ∙ t 2) in
       let store = allOf-at (map (allBelow storeCount) storeTests) (sym (stores-row (t 0)) ∙ t 4) in
@@ -235,7 +236,7 @@ module _ (K : Kind) (list operands results : ℕ) (m : Machine (K .Num)) (short 
         apart = t 5;
       }
 
-  to-slots : Rules → goodBySlots K list operands results m ≡ true
+  to-slots : Rules → goodBySlots K words areas m ≡ true
   to-slots r =
       and-i (r .next)
       (and-i (buffers-row ∙ and-i (r .bufferPlaces) (and-i (r .bufferCells) refl))
@@ -244,11 +245,11 @@ module _ (K : Kind) (list operands results : ℕ) (m : Machine (K .Num)) (short 
       (and-i (stores-row (r .next) ∙ and-i (r .storePlaces) (and-i (r .storeCells) (and-i (r .storesNamed) (and-i (r .storesHeld) refl))))
       (and-i (r .apart) refl)))))
 
-  pub by-slots : goodOrder K list operands results m ≡ goodBySlots K list operands results m
+  pub by-slots : goodOrder K words areas m ≡ goodBySlots K words areas m
   by-slots =
-      both-ways (goodOrder K list operands results m) (goodBySlots K list operands results m)
+      both-ways (goodOrder K words areas m) (goodBySlots K words areas m)
       (λ e. to-slots (of-clauses e)) (λ e. to-clauses (of-slots e))
 
   -- one row that fails
-  pub row-fails : (k : ℕ) → getD (rowTests K list operands results m) k true ≡ false → false ≡ goodOrder K list operands results m
-  row-fails k e = sym (by-slots ∙ one-fails (rowTests K list operands results m) k e)
+  pub row-fails : (k : ℕ) → getD (rowTests K words areas m) k true ≡ false → false ≡ goodOrder K words areas m
+  row-fails k e = sym (by-slots ∙ one-fails (rowTests K words areas m) k e)

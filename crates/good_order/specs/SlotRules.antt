@@ -4,7 +4,8 @@ use mathlib.Core.Bool.{Bool, true, cond, not, _&&_, _||_}
 use mathlib.Core.List.{List, [], _∷_, map}
 use Prim.Native.Nat.{ℕ}
 use lib.Dec.{ltb, leb, eqb}
-use lib.ListN.{getD}
+use lib.ListN.{length, getD}
+use Rattle.words.specs.declared.Areas.{Areas}
 use Rattle.words.specs.Instructions.{isCell}
 use Rattle.theory_machine.specs.Rows.{allOf, allBelow}
 use Rattle.theory_machine.specs.Tags.{registerCount, bufferCount, stationCount, storeCount, firstStation, lastStation, suits}
@@ -84,15 +85,15 @@ abbrev pub giverPlace : {A : Type 0} → Machine A → (t : ℕ) → ℕ
 giverPlace m t = placeOf (giverOf m t)
 
 -- the machine, a row at a time
-abbrev pub rowTests : (K : Kind) (list operands results : ℕ) → Machine (K .Num) → List Bool
-rowTests K list operands results m =
-    leb (m .next) list
-    ∷ buffersGood (m .next) operands (m .buffers)
+abbrev pub rowTests : (K : Kind) (words : List ℕ) → Areas → Machine (K .Num) → List Bool
+rowTests K words areas m =
+    leb (m .next) (length words)
+    ∷ buffersGood (m .next) (areas .operands) (m .buffers)
     ∷ stationsGood (giverPlace m) (m .next) (m .stations)
     ∷ registersGood (giverPlace m) (K .nought) (m .registers)
-    ∷ storesGood (giverPlace m) (m .next) results (m .stores)
+    ∷ storesGood (giverPlace m) (m .next) (areas .results) (m .stores)
     ∷ storesApart (m .stores)
     ∷ []
 
-abbrev pub goodBySlots : (K : Kind) (list operands results : ℕ) → Machine (K .Num) → Bool
-goodBySlots K list operands results m = allOf (rowTests K list operands results m)
+abbrev pub goodBySlots : (K : Kind) (words : List ℕ) → Areas → Machine (K .Num) → Bool
+goodBySlots K words areas m = allOf (rowTests K words areas m)

@@ -14,11 +14,12 @@ use lib.Seq.{drop-cons, set-append-seam}
 use borrow.Author.Tests.{eqb-true, le-ltb}
 use Rattle.words.specs.Instructions.{listLimit}
 use Rattle.theory_machine.specs.Machine as theory
-use Rattle.theory_machine.specs.Machine.{Lent, Shape}
+use Rattle.theory_machine.specs.Machine.{Lent, areasOf, Shape}
 use Rattle.theory_machine.specs.Binary64.{binary64}
 use Rattle.theory_machine.specs.Steps.{inOrder}
-use Rattle.theory_machine.specs.Entries.{listRefusal}
+use Rattle.theory_machine.specs.Entries.{refusalOfEntry}
 use Rattle.theory_machine.specs.Asked.{written}
+use Rattle.theory_machine.proofs.Checks.{list-passed, order-passed}
 use Rattle.theory_machine.proofs.Words.{passes}
 use Rattle.theory_run.specs.Run.{ScheduleRun, run, notBegun, unlogged, loggedOver}
 use Rattle.machine_parts.specs.declared.parts.Machine.{Machine}
@@ -153,27 +154,36 @@ module _ (m : Machine) (words : List ℕ) (operands cells : List Float) (schedul
   unfolding runs advanced cellsAfter
   not-begun number = record { machine = refl; steps = refl; place = refl; refusal = refl; records = refl; over = refl; cells = refl; log = refl }
 
-  abbrev entry : Bool → Bool → ℕ
-  entry passed ordered = cond (not passed) (listRefusal binary64 ofList) (cond (not ordered) 6 0)
+  abbrev entry : ℕ
+  entry = refusalOfEntry binary64 ofList (view m)
 
-  abbrev paper : Bool → Bool → ScheduleRun Float
-  paper passed ordered =
-      cond (not passed) (notBegun binary64 ofList (length log) schedule (view m) cells (listRefusal binary64 ofList))
-      (cond (not ordered) (notBegun binary64 ofList (length log) schedule (view m) cells 6)
-      (onFrom ofList (length log) schedule (length schedule) (unlogged binary64 ofList (length log) schedule (view m) cells) 0 0))
+  abbrev paper : (passed : Bool) → ScheduleRun Float
+  paper passed =
+      cond passed (onFrom ofList (length log) schedule (length schedule) (unlogged binary64 ofList (length log) schedule (view m) cells) 0 0)
+      (notBegun binary64 ofList (length log) schedule (view m) cells entry)
 
   module _ (S : Shape (view m)) where
-    by-entry : (a : Bool) → eqb (listRefusal binary64 ofList) 0 ≡ a → (b : Bool) → inOrder binary64 ofList (view m) ≡ b → Begins (paper a b) (whole (entry a b) (eqb (entry a b) 0))
-    by-entry false e b f = subst (λ (g : Bool). Begins (paper false b) (whole (listRefusal binary64 ofList) g)) (sym e) (not-begun (listRefusal binary64 ofList))
-    by-entry true e false f = not-begun 6
-    by-entry true e true f =
-        shows words operands (length cells) schedule log (passes binary64 ofList (eqb-true (listRefusal binary64 ofList) 0 e) .short) (suc (length schedule)) (length schedule) (lt-suc-self (length schedule))
+    by-entry : (a : Bool) → eqb entry 0 ≡ a → Begins (paper a) (whole entry a)
+    by-entry false e = not-begun entry
+    by-entry true e =
+        let z : entry ≡ 0 = eqb-true entry 0 e in
+        subst (λ (n : ℕ). Begins (paper true) (whole n true)) (sym z)
+        (shows words operands (length cells) schedule log (passes binary64 ofList (list-passed binary64 words (areasOf ofList) (view m) z) .short) (suc (length schedule)) (length schedule) (lt-suc-self (length schedule))
         (record { machine = m; steps = 0; place = 0; refusal = 0; records = 0; going = true }) cells log []
-        (record { going = refl; enough = omega arith; few = omega arith; rows = S; ordered = f; records = refl; area = refl; so-far = refl })
+        (record {
+          going = refl;
+          enough = omega arith;
+          few = omega arith;
+          rows = S;
+          ordered = order-passed binary64 words (areasOf ofList) (view m) z;
+          records = refl;
+          area = refl;
+          so-far = refl;
+        }))
 
     shows-run : Begins (run binary64 ofList (length log) schedule (view m) cells) (runByReleases m words operands cells schedule log)
     unfolding run beginning
-    shows-run = by-entry (eqb (listRefusal binary64 ofList) 0) refl (inOrder binary64 ofList (view m)) refl
+    shows-run = by-entry (eqb entry 0) refl
 
     -- what the loop has come to is the answer of the theory's run
     pub run-answers : {r : Progress} {cells′ : List Float} {log′ : List Record} → record { run = r; cells = cells′; log = log′ } ≡ runByReleases m words operands cells schedule log

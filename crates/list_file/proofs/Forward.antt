@@ -11,7 +11,7 @@ use lib.Seq.{drop-append-seam, drop-drop}
 use borrow.Author.Tests.{ltb-true, ltb-false, eq-eqb, le-ltb}
 use Rattle.words.specs.declared.Verdict.{Verdict}
 use Rattle.words.specs.Instructions.{operationField, r1Field, operandField, formOf}
-use Rattle.words.specs.Check.{operationRefusal, registerRefusal, operandRefusal, firstBad, wordRefusal}
+use Rattle.words.specs.Check.{operationRefusal, registerRefusal, operandRefusal, firstBad, wordRefusal, noAreas}
 use Rattle.words.proofs.Known.{known-operation, known-register, known-operand}
 use Rattle.words.proofs.Fields.{word-of-fields}
 use Rattle.words.proofs.Passes.{word-passes, list-passes}
@@ -59,11 +59,11 @@ module _ (bytes : List ℕ) where
   unfolding fieldAt
   field-goes own at v rest ok h g = rw (number-goes at v rest h g, eq-eqb (own v) 0 ok)
 
-  pub word-goes : (at w : ℕ) (rest : List ℕ) → wordRefusal 256 256 w ≡ 0 → Goes at (wordBytes w) rest
+  pub word-goes : (at w : ℕ) (rest : List ℕ) → wordRefusal noAreas w ≡ 0 → Goes at (wordBytes w) rest
       → wordAt bytes at ≡ accepted w (at + length (wordBytes w))
   unfolding wordAt r1At operandAt wordBytes
   word-goes at w rest ok g =
-      let p = word-passes 256 256 w ok in
+      let p = word-passes noAreas w ok in
       let o = operationField w in
       let r = r1Field w in
       let x = operandField w in
@@ -73,15 +73,15 @@ module _ (bytes : List ℕ) where
       rw (
         field-goes operationRefusal at o _ (p .operation) (omega (arith, known-operation o (p .operation))) g₁,
         field-goes registerRefusal _ r _ (p .r1) (omega (arith, known-register r (p .r1))) g₂,
-        field-goes (operandRefusal 256 256 (formOf o)) _ x rest (p .operand) (omega (arith, known-operand 256 256 o x (p .operation) (p .operand))) g₃,
+        field-goes (operandRefusal noAreas (formOf o)) _ x rest (p .operand) (omega (arith, known-operand noAreas o x (p .operation) (p .operand))) g₃,
         word-of-fields w,
       ) (ap (accepted w) (omega (arith, word-size w)))
 
-  pub words-go : (at k : ℕ) (ws : List ℕ) → firstBad 256 256 k ws .refusal ≡ 0 → drop at bytes ≡ wordsBytes ws
+  pub words-go : (at k : ℕ) (ws : List ℕ) → firstBad noAreas k ws .refusal ≡ 0 → drop at bytes ≡ wordsBytes ws
       → wordsAt (length ws) bytes at ≡ accepted ws (length bytes)
   words-go at k [] ok g = rw (le-ltb at (length bytes) (omega (arith, length-drop at bytes, ap length g)))
   words-go at k (w ∷ ws) ok g =
-      let p = list-passes 256 256 k w ws ok in
+      let p = list-passes noAreas k w ws ok in
       rw (
         word-goes at w (wordsBytes ws) (p .0) g,
         words-go (at + length (wordBytes w)) (suc k) ws (p .1) (past at (wordBytes w) (wordsBytes ws) g),

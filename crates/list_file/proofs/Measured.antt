@@ -6,7 +6,7 @@ use native.Mathlib.Omega.{arith}
 use lib.ListN.{length, getD, drop, length-append, drop-of-length-le}
 use borrow.Author.Tests.{lt-ltb, le-ltb}
 use Rattle.words.specs.declared.Verdict.{Verdict}
-use Rattle.words.specs.Check.{wordRefusal, firstBad, listCheck, listCheckAlone}
+use Rattle.words.specs.Check.{wordRefusal, firstBad, listCheck, listCheckAlone, noAreas}
 use Rattle.words.proofs.Bad.{bad-here, bad-later, bad-none}
 use Rattle.seven_bit.specs.SevenBits.{bytesOf}
 use Rattle.list_file.specs.Writing.{wordBytes, wordsBytes, fileOf}
@@ -18,7 +18,7 @@ pub record Sizing (list : List ℕ) (size place : ℕ) : Type 0 where
   pub within : place ≤ length list
   pub small : size ≤ 3 + 9 * place
   pub sized : length (fileOf list) ≡ size + length (wordsBytes (drop place list))
-  pub checked : firstBad 256 256 0 list ≡ firstBad 256 256 place (drop place list)
+  pub checked : firstBad noAreas 0 list ≡ firstBad noAreas place (drop place list)
 
 module _ (list : List ℕ) where
   pub too-long : 4096 < length list → Measuring list 1 4096 0
@@ -35,7 +35,7 @@ module _ (list : List ℕ) where
 
   module _ {size place : ℕ} (s : Sizing list size place) where
     abbrev refusal : ℕ
-    refusal = wordRefusal 256 256 (getD list place 0)
+    refusal = wordRefusal noAreas (getD list place 0)
 
     module _ (h : place < length list) where
       pub sizing-more : {more : ℕ} → refusal ≡ 0 → more ≡ length (wordBytes (getD list place 0)) → Sizing list (size + more) (place + 1)
@@ -43,19 +43,19 @@ module _ (list : List ℕ) where
         within = omega arith;
         small = omega (arith, s .small, nine-bytes (getD list place 0));
         sized = omega (arith, s .sized, ap length (words-next list place h), length-append (wordBytes (getD list place 0)) (wordsBytes (drop (place + 1) list)));
-        checked = s .checked ∙ bad-later 256 256 list place h ok;
+        checked = s .checked ∙ bad-later noAreas list place h ok;
       }
 
       pub sizing-bad : length list ≤ 4096 → {bad : ℕ} → bad ≡ refusal → (bad ≡ 0 → ⊥) → Measuring list bad place 0
       unfolding listCheck
       sizing-bad short e n = record {
-        check = rw (le-ltb 4096 (length list) short, e) (sym (s .checked ∙ bad-here 256 256 list place h (rw e at n)));
+        check = rw (le-ltb 4096 (length list) short, e) (sym (s .checked ∙ bad-here noAreas list place h (rw e at n)));
         measured = λ z. absurd (n z);
       }
 
     pub sizing-all : length list ≤ 4096 → length list ≤ place → Measuring list 0 place size
     unfolding listCheck
     sizing-all short past = record {
-      check = rw (le-ltb 4096 (length list) short) (sym (s .checked ∙ bad-none 256 256 list place past));
+      check = rw (le-ltb 4096 (length list) short) (sym (s .checked ∙ bad-none noAreas list place past));
       measured = λ z. omega (arith, s .sized, ap (λ (l : List ℕ). length (wordsBytes l)) (drop-of-length-le list past));
     }

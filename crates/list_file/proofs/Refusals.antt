@@ -7,7 +7,7 @@ use native.Mathlib.Omega.{arith}
 use lib.Dec.{ltb, leb, eqb}
 use lib.ListN.{length, drop}
 use borrow.Author.Tests.{eqb-false}
-use Rattle.words.specs.Check.{operationRefusal, registerRefusal, operandRefusal}
+use Rattle.words.specs.Check.{operationRefusal, registerRefusal, operandRefusal, noAreas}
 use Rattle.words.specs.Instructions.{formOf}
 use Rattle.seven_bit.specs.SevenBits.{Groups, whole, broken, follows, joined, lastGroup, laterGroups, groups, limited, numberIn, Parsed, accepted, refused, placed, numberAt}
 use Rattle.list_file.specs.Reading.{andThen, owned, fieldAt, operandAt, r1At, wordAt, wordsAt, countRefusal, listIn}
@@ -84,8 +84,8 @@ unfolding wordAt r1At operandAt
 word-real bytes at =
     then-real (fieldAt operationRefusal bytes at) (λ o n. r1At o bytes n) (field-real operationRefusal bytes at)
     (λ o n. then-real (fieldAt registerRefusal bytes n) (λ r m. operandAt o r bytes m) (field-real registerRefusal bytes n)
-    (λ r m. then-real (fieldAt (operandRefusal 256 256 (formOf o)) bytes m) (λ x e. accepted _ e)
-    (field-real (operandRefusal 256 256 (formOf o)) bytes m) (λ x e. tt)))
+    (λ r m. then-real (fieldAt (operandRefusal noAreas (formOf o)) bytes m) (λ x e. accepted _ e)
+    (field-real (operandRefusal noAreas (formOf o)) bytes m) (λ x e. tt)))
 
 words-real : (n : ℕ) (bytes : List ℕ) (at : ℕ) → Real (wordsAt n bytes at)
 words-real zero bytes at = go (ltb at (length bytes))

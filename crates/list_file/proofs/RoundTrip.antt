@@ -9,7 +9,7 @@ use lib.ListN.{length, take, drop}
 use lib.Seq.{take-append-seam}
 use borrow.Author.Tests.{ltb-true, ltb-false, lt-ltb, le-ltb, eqb-true, eqb-false}
 use Rattle.words.specs.declared.Verdict.{Verdict}
-use Rattle.words.specs.Check.{firstBad, listCheck, listCheckAlone, firstOf}
+use Rattle.words.specs.Check.{firstBad, listCheck, listCheckAlone, firstOf, noAreas}
 use Rattle.list_file.specs.declared.ListRead.{ListRead}
 use Rattle.list_file.specs.declared.Written.{Written}
 use Rattle.seven_bit.specs.SevenBits.{Parsed, accepted, refused, bytesOf}
@@ -64,7 +64,7 @@ pub file-read : (list : List ℕ) (room : ℕ) → listCheckAlone list .refusal 
     → listIn room (fileOf list) ≡ accepted list (length (fileOf list))
 unfolding listIn listCheck
 file-read list room ok enough =
-    let short = within-limit 256 256 list ok in
+    let short = within-limit noAreas list ok in
     let counts : countRefusal room (length list) ≡ 0 = rw (le-ltb 4096 (length list) short, le-ltb room (length list) enough) in
     rw (field-goes (fileOf list) (countRefusal room) 0 (length list) (wordsBytes list) counts (omega arith) refl)
     (words-go (fileOf list) (0 + length (bytesOf (length list))) 0 list (rw (le-ltb 4096 (length list) short) at ok)
@@ -74,7 +74,7 @@ file-read list room ok enough =
 pub file-short : (list : List ℕ) (room : ℕ) → listCheckAlone list .refusal ≡ 0 → room < length list → listIn room (fileOf list) ≡ refused 11 0
 unfolding listIn fieldAt
 file-short list room ok less =
-    let short = within-limit 256 256 list ok in
+    let short = within-limit noAreas list ok in
     rw (number-goes (fileOf list) 0 (length list) (wordsBytes list) (omega arith) refl, le-ltb 4096 (length list) short, lt-ltb room (length list) less)
 
 -- THE TWO THEOREMS

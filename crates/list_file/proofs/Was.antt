@@ -6,7 +6,7 @@ use native.Mathlib.Omega.{arith}
 use lib.ListN.{length, getD, drop, drop-of-length-le}
 use lib.Seq.{getD-drop}
 use Rattle.words.specs.Instructions.{wordOf, operationField, r1Field, operandField, formOf}
-use Rattle.words.specs.Check.{operationRefusal, registerRefusal, operandRefusal}
+use Rattle.words.specs.Check.{operationRefusal, registerRefusal, operandRefusal, noAreas}
 use Rattle.words.proofs.Known.{known-operation, known-register, known-operand}
 use Rattle.words.proofs.Fields.{operation-of-word, r1-of-word, operand-of-word}
 use Rattle.seven_bit.specs.SevenBits.{Groups, whole, broken, numberIn, Parsed, accepted, placed, numberAt, bytesOf}
@@ -50,14 +50,14 @@ module _ (bytes : List ℕ) (all : Bytes bytes) where
       let two = then-of (fieldAt registerRefusal bytes (one .next)) (λ r1 at₂. operandAt o r1 bytes at₂) (one .rest) in
       let r = two .first in
       let three =
-      then-of (fieldAt (operandRefusal 256 256 (formOf o)) bytes (two .next)) (λ operand end. accepted (wordOf o r operand) end) (two .rest) in
+      then-of (fieldAt (operandRefusal noAreas (formOf o)) bytes (two .next)) (λ operand end. accepted (wordOf o r operand) end) (two .rest) in
       let x = three .first in
       let known = field-of operationRefusal bytes at (one .is) .passes in
       let narrow : r < 16 = omega (arith, known-register r (field-of registerRefusal bytes (one .next) (two .is) .passes)) in
       let short : x < 4096 =
-      omega (arith, known-operand 256 256 o x known (field-of (operandRefusal 256 256 (formOf o)) bytes (two .next) (three .is) .passes)) in
+      omega (arith, known-operand noAreas o x known (field-of (operandRefusal noAreas (formOf o)) bytes (two .next) (three .is) .passes)) in
       let whole-word : wordOf o r x ≡ word = value-of (three .rest) in
-      let last : Was (two .next) (bytesOf x) next = rw (next-of (three .rest)) at (field-was (operandRefusal 256 256 (formOf o)) (two .next) (three .is)) in
+      let last : Was (two .next) (bytesOf x) next = rw (next-of (three .rest)) at (field-was (operandRefusal noAreas (formOf o)) (two .next) (three .is)) in
       rw (← whole-word, operation-of-word o r x narrow short, r1-of-word o r x narrow short, operand-of-word o r x narrow short)
       (joined-was at (bytesOf o) (one .next) (bytesOf r ++ bytesOf x) next (field-was operationRefusal at (one .is))
       (joined-was (one .next) (bytesOf r) (two .next) (bytesOf x) next (field-was registerRefusal (one .next) (two .is)) last))

@@ -9,7 +9,8 @@ use lib.ListN.{length}
 use lib.Seq.{sets}
 use borrow.Author.Tests.{ltb-false, lt-ltb, le-ltb, eq-eqb, ne-eqb}
 use Rattle.words.specs.declared.Verdict.{Verdict}
-use Rattle.words.specs.Check.{firstBad, listCheck, listCheckAlone}
+use Rattle.words.specs.declared.Areas.{Areas}
+use Rattle.words.specs.Check.{firstBad, listCheck, listCheckAlone, noAreas}
 use Rattle.list_file.specs.declared.Written.{Written}
 use Rattle.seven_bit.specs.SevenBits.{bytesOf}
 use Rattle.list_file.specs.Writing.{wordsBytes, fileOf, writeAnswer, writeBytes}
@@ -18,12 +19,12 @@ use Rattle.list_file.proofs.Laid.{sets-append}
 use Rattle.list_file.proofs.Passed.{sets-over}
 
 -- a list that passes is within the limit
-pub within-limit : (operands results : ℕ) (list : List ℕ) → listCheck operands results list .refusal ≡ 0 → length list ≤ 4096
+pub within-limit : (areas : Areas) (list : List ℕ) → listCheck areas list .refusal ≡ 0 → length list ≤ 4096
 unfolding listCheck
-within-limit operands results list e = go (ltb 4096 (length list)) refl e
+within-limit areas list e = go (ltb 4096 (length list)) refl e
   where
     go : (b : Bool) → ltb 4096 (length list) ≡ b
-        → _≡_ {A = ℕ} (cond {A = Verdict} b (record { refusal = 1; place = 4096 }) (firstBad operands results 0 list) .refusal) 0
+        → _≡_ {A = ℕ} (cond {A = Verdict} b (record { refusal = 1; place = 4096 }) (firstBad areas 0 list) .refusal) 0
         → length list ≤ 4096
     go true p e = absurd (omega arith)
     go false p e = ltb-false 4096 (length list) p
@@ -57,4 +58,4 @@ module _ (list bytes : List ℕ) {refusal place size : ℕ} (m : Measuring list 
         )
 
     pub wrote-within : length list ≤ 4096
-    wrote-within = within-limit 256 256 list (sym (ap (λ (v : Verdict). v .refusal) (m .check)) ∙ ok)
+    wrote-within = within-limit noAreas list (sym (ap (λ (v : Verdict). v .refusal) (m .check)) ∙ ok)

@@ -4,8 +4,8 @@ use mathlib.Core.List.{List, [], _∷_, _++_}
 use Prim.Native.Nat.{ℕ, zero, suc}
 use lib.Dec.{ltb, eqb}
 use lib.ListN.{length, drop}
-use Rattle.words.specs.Instructions.{wordOf, formOf, cellLimit, listLimit}
-use Rattle.words.specs.Check.{operationRefusal, registerRefusal, operandRefusal, firstOf}
+use Rattle.words.specs.Instructions.{wordOf, formOf, listLimit}
+use Rattle.words.specs.Check.{operationRefusal, registerRefusal, operandRefusal, noAreas, firstOf}
 use Rattle.list_file.specs.declared.ListRead.{ListRead}
 use Rattle.seven_bit.specs.SevenBits.{Parsed, accepted, refused, numberAt}
 
@@ -25,7 +25,7 @@ fieldAt own bytes at = owned own at (numberAt bytes at)
 -- "then operation, R1 and operand for each word": what is left of a word at its operand, at its R1, and whole
 unfoldable pub operandAt : (operation r1 : ℕ) → List ℕ → ℕ → Parsed ℕ
 operandAt operation r1 bytes at =
-    andThen (fieldAt (operandRefusal cellLimit cellLimit (formOf operation)) bytes at)
+    andThen (fieldAt (operandRefusal noAreas (formOf operation)) bytes at)
     (λ operand next. accepted (wordOf operation r1 operand) next)
 
 unfoldable pub r1At : (operation : ℕ) → List ℕ → ℕ → Parsed ℕ

@@ -2,8 +2,8 @@
 use crate::ListRead;
 use seven_bit::Parsed;
 use seven_bit::number_at;
-use words::CELL_LIMIT;
 use words::LIST_LIMIT;
+use words::NO_AREAS;
 use words::refusal;
 ghost use mathlib.Core.Path.{_≡_};
 ghost use Prim.Native.Nat.{_≤_, _<_};
@@ -42,7 +42,7 @@ fn operand_at(operation: u32, r1: u32, bytes: &[u8], at: usize) -> Parsed
 {
     match number_at(bytes, at) {
         Parsed::Accepted(operand, next) => {
-            let own = words::operand_refusal(operation, operand, CELL_LIMIT, CELL_LIMIT);
+            let own = words::operand_refusal(operation, operand, NO_AREAS);
             if own != 0 {
                 return Parsed::Refused(own, at);
             }

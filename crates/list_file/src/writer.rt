@@ -1,7 +1,7 @@
 // The writer: one pass checks the list and measures its file, one stores it.
 use crate::Written;
-use words::CELL_LIMIT;
 use words::LIST_LIMIT;
+use words::NO_AREAS;
 use words::refusal;
 ghost use mathlib.Core.Path.{_≡_};
 ghost use Prim.Native.Nat.{_+_, _%_, _≤_, _<_};
@@ -92,7 +92,7 @@ fn measure(list: &[u32]) -> Measured
     let mut size = number_size(list.len() as u32);
     let mut place = 0;
     while place < list.len() {
-        let bad = words::word_refusal(list[place], CELL_LIMIT, CELL_LIMIT);
+        let bad = words::word_refusal(list[place], NO_AREAS);
         if bad != 0 {
             return Measured {
                 refusal: bad,

@@ -72,9 +72,12 @@ abbrev pub viewStepped : Stepped → Answer Float
 viewStepped s = record { refusal = s .refusal; machine = view (s .machine); released = viewReleased (s .released) }
 
 -- what is lent to an entry: the list, the operand cells, and the result cells, of which only the length counts
+abbrev pub lentWith : (words : List ℕ) (operands : List Float) (results : ℕ) → Lent Float
+lentWith words operands results = record { words = words; operands = operands; results = results }
+
 abbrev pub lent : (words : List ℕ) (operands results : List Float) → Lent Float
-lent words operands results = record { words = words; operands = operands; results = length results }
+lent words operands results = lentWith words operands (length results)
 
 -- operand cells lent alone: what an arrival, or one instruction of the one-at-a-time run, reads of what is lent
 abbrev pub cellsAlone : List Float → Lent Float
-cellsAlone operands = record { words = []; operands = operands; results = 0 }
+cellsAlone operands = lentWith [] operands 0

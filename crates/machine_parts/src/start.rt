@@ -8,6 +8,8 @@ use crate::parts::Station;
 use crate::parts::StationState;
 use crate::parts::StoreBuffer;
 use crate::parts::StoreState;
+use words::Areas;
+use words::check_list_against;
 use words::refusal;
 ghost use mathlib.Core.Path.{_≡_};
 ghost use Rattle.theory_machine.specs.Entries.{emptyMachine, fresh};
@@ -57,7 +59,13 @@ fn empty_machine(numbers: [f64; 4]) -> Machine
 pub fn fresh(words: &[u32], operands: &[f64], results: &[f64], starts: [f64; 4]) -> FreshMachine
     ensures { λ r. ⌜ viewFresh r ≡ fresh binary64 (lent (now (words .entry)) (now (operands .entry)) (now (results .entry))) starts ⌝ }
 {
-    let refused = words::check_list_against(words, operands.len(), results.len()).refusal;
+    let refused = check_list_against(
+        words,
+        Areas {
+            operands: operands.len(),
+            results: results.len(),
+        },
+    ).refusal;
     if refused != 0 {
         return FreshMachine {
             machine: empty_machine([0.0; 4]),

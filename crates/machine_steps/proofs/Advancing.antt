@@ -15,44 +15,23 @@ use Rattle.theory_machine.specs.Machine.{Lent}
 use Rattle.theory_machine.specs.Issue.{Answer, isTaken}
 use Rattle.theory_machine.specs.Steps.{perform}
 use Rattle.theory_machine.proofs.Rows.{cond-cases}
-use Rattle.words.specs.declared.Verdict.{Verdict}
-use Rattle.words.specs.Check.{listCheck}
 use Rattle.theory_machine.specs.Binary64.{binary64}
-use Rattle.theory_machine.specs.GoodOrder.{goodOrder}
 use Rattle.theory_machine.specs.Asked.{written}
 use Rattle.machine_parts.specs.declared.parts.Machine.{Machine}
 use Rattle.machine_parts.specs.declared.parts.Record.{Record}
 use Rattle.machine_parts.specs.declared.parts.Released.the-variants.{Nothing, One}
-use Rattle.machine_parts.specs.View.{view, viewReleased}
+use Rattle.machine_parts.specs.View.{view, viewReleased, lentWith}
 use Rattle.machine_parts.specs.Back.{machineOf}
 use Rattle.machine_parts.proofs.Exact.{back}
 use Rattle.machine_steps.specs.declared.advance.Progress.{Progress}
 use Rattle.machine_steps.specs.declared.advance.Stop.{Stop}
 use Rattle.machine_take.specs.declared.taking.Taken as declared
-use Rattle.machine_take.specs.Inside.{lentTo}
 use Rattle.machine_take.specs.Taking as taking
 use Rattle.machine_take.specs.Taking.{Taken, viewTaken, byNumber, byRelease, afterStep, takeFrom}
 use Rattle.machine_take.proofs.Counted.{counted, counted-on, few-steps}
-use Rattle.machine_steps.specs.Advance.{beginning, stays, stopOf, takenOn, goes, advanced, cellsAfter}
+use Rattle.machine_steps.specs.Advance.{runRefusal, beginning, stays, stopOf, takenOn, goes, advanced, cellsAfter}
 
-module _ (m : Machine) (words : List ℕ) (operands : List Float) (results : ℕ) {v : Verdict} (e : v ≡ listCheck (length operands) results words) where
-  listed : listCheck (length operands) results words .refusal ≡ v .refusal
-  listed = ap (λ (w : Verdict). w .refusal) (sym e)
-
-  pub list-refused : (v .refusal ≡ 0 → ⊥) → v .refusal ≡ beginning m words operands results .refusal
-  unfolding beginning
-  list-refused z = rw (listed, ne-eqb (v .refusal) 0 z)
-
-  module _ (z : v .refusal ≡ 0) where
-    pub machine-refused : goodOrder binary64 (length words) (length operands) results (view m) ≡ false → 6 ≡ beginning m words operands results .refusal
-    unfolding beginning
-    machine-refused o = rw (listed, eq-eqb (v .refusal) 0 z, o)
-
-    pub both-pass : goodOrder binary64 (length words) (length operands) results (view m) ≡ true → 0 ≡ beginning m words operands results .refusal
-    unfolding beginning
-    both-pass o = rw (listed, eq-eqb (v .refusal) 0 z, o)
-
-pub begins-so : (m : Machine) (words : List ℕ) (operands : List Float) (results : ℕ) {n : ℕ} → n ≡ beginning m words operands results .refusal
+pub begins-so : (m : Machine) (words : List ℕ) (operands : List Float) (results : ℕ) {n : ℕ} → n ≡ runRefusal m words operands results
     → record { machine = m; steps = 0; place = 0; refusal = n; records = 0; going = eqb n 0 } ≡ beginning m words operands results
 unfolding beginning
 begins-so m words operands results q = λ i. record { machine = m; steps = 0; place = 0; refusal = q i; records = 0; going = eqb (q i) 0 }
@@ -104,16 +83,16 @@ module _ (p : Progress) (words : List ℕ) (operands cells : List Float) (schedu
   never g h e = over (rw (g, lt-ltb (p .place) (p .steps) h)) e
 
   module _ (g : p .going ≡ true) (h : p .steps ≤ p .place) (t : declared.Taken)
-      (q : viewTaken t ≡ takeFrom (lentTo words operands (length cells)) (ltb (p .records) room) schedule (length schedule) (view (p .machine)) 0 (p .place)) {cells′ : List Float}
+      (q : viewTaken t ≡ takeFrom (lentWith words operands (length cells)) (ltb (p .records) room) schedule (length schedule) (view (p .machine)) 0 (p .place)) {cells′ : List Float}
       (w : cells′ ≡ written cells (viewReleased (t .released))) where
     -- with the steps before
     e : counted (p .steps) (viewTaken t) ≡ takenOn p words operands cells schedule room
-    e = ap (counted (p .steps)) q ∙ sym (counted-on (lentTo words operands (length cells)) (ltb (p .records) room) schedule (p .steps) (length schedule) (view (p .machine)) (p .steps) 0 (p .place) (omega arith))
+    e = ap (counted (p .steps)) q ∙ sym (counted-on (lentWith words operands (length cells)) (ltb (p .records) room) schedule (p .steps) (length schedule) (view (p .machine)) (p .steps) 0 (p .place) (omega arith))
 
     pub few : t .steps ≤ length schedule - p .place
     few =
-        let z : t .steps ≡ takeFrom (lentTo words operands (length cells)) (ltb (p .records) room) schedule (length schedule) (view (p .machine)) 0 (p .place) .steps = ap (λ (t : Taken). t .steps) q in
-        let f = few-steps (lentTo words operands (length cells)) (ltb (p .records) room) schedule (length schedule) (view (p .machine)) 0 (p .place) in
+        let z : t .steps ≡ takeFrom (lentWith words operands (length cells)) (ltb (p .records) room) schedule (length schedule) (view (p .machine)) 0 (p .place) .steps = ap (λ (t : Taken). t .steps) q in
+        let f = few-steps (lentWith words operands (length cells)) (ltb (p .records) room) schedule (length schedule) (view (p .machine)) 0 (p .place) in
         rw z (omega (arith, f))
 
     going-on : goes p words operands cells schedule room ≡ true
@@ -122,7 +101,7 @@ module _ (p : Progress) (words : List ℕ) (operands cells : List Float) (schedu
     pub has-room : (made : Record) → t .released ≡ One made → p .records < room
     has-room made z =
         ltb-true (p .records) room
-        (released-room (lentTo words operands (length cells)) schedule (ltb (p .records) room) (length schedule) (view (p .machine)) (p .steps) (p .place)
+        (released-room (lentWith words operands (length cells)) schedule (ltb (p .records) room) (length schedule) (view (p .machine)) (p .steps) (p .place)
         (sym (ap (λ (t : Taken). t .released) e) ∙ ap viewReleased z))
 
     cells-so : cells′ ≡ cellsAfter p words operands cells schedule room

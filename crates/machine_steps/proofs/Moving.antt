@@ -10,6 +10,7 @@ use lib.Ieee.{Float}
 use lib.ListN.{length}
 use borrow.Author.Tests.{leb-false}
 use Rattle.seven_bit.specs.SevenBits.{Parsed, accepted, refused, numberAt}
+use Rattle.machine_parts.specs.View.{lentWith}
 use Rattle.theory_machine.specs.Machine.{Lent, Machine, Record}
 use Rattle.theory_machine.specs.Issue.{Answer, isTaken}
 use Rattle.theory_machine.specs.Binary64.{binary64}
@@ -17,7 +18,6 @@ use Rattle.theory_machine.specs.Steps.{perform}
 use Rattle.theory_machine.proofs.Rows.{cond-cases}
 use Rattle.machine_steps.specs.declared.advance.Progress.{Progress}
 use Rattle.machine_steps.specs.declared.advance.Stop.{Stop}
-use Rattle.machine_take.specs.Inside.{lentTo}
 use Rattle.machine_take.specs.Taking.{Taken, endedAt, byNumber, byRelease, afterStep, takeFrom}
 use Rattle.machine_steps.specs.Advance as advance
 use Rattle.machine_steps.specs.Advance.{takenOn, goes, advanced}
@@ -78,4 +78,4 @@ module _ (p : Progress) (words : List ℕ) (operands cells : List Float) (schedu
   advance-moves =
       let t = takenOn p words operands cells schedule room in
       cond-cases Onward (goes p words operands cells schedule room)
-      (λ _. at-stop t (t .released) (moved schedule (lentTo words operands (length cells)) _ (length schedule) _ (p .steps) (p .place))) (λ _ h. absurd (true≢false (sym h)))
+      (λ _. at-stop t (t .released) (moved schedule (lentWith words operands (length cells)) _ (length schedule) _ (p .steps) (p .place))) (λ _ h. absurd (true≢false (sym h)))

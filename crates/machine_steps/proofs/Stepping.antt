@@ -17,9 +17,8 @@ use Rattle.machine_take.specs.Taking.{Taken, viewTaken, afterStep, takeFrom}
 use Rattle.machine_take.specs.declared.taking.Taken as declared
 use Rattle.theory_machine.specs.Issue.{Answer}
 use Rattle.theory_machine.specs.Binary64.{binary64}
-use Rattle.theory_machine.specs.GoodOrder.{goodOrder}
 use Rattle.theory_machine.specs.Codes.{unknownCode, stepOf}
-use Rattle.theory_machine.specs.Steps.{perform, step}
+use Rattle.theory_machine.specs.Steps.{perform, inOrder, step}
 use Rattle.theory_machine.specs.Asked.{written}
 use Rattle.machine_parts.specs.declared.parts.Machine.{Machine}
 use Rattle.machine_parts.specs.declared.parts.Released.the-variants.{Nothing}
@@ -80,19 +79,19 @@ module _ (words : List ℕ) (operands : List Float) (m : Machine) (cells : List 
   too-long h e = refused-answer 1 e (rw (lt-ltb 4096 (length words) h))
 
   module _ (short : length words ≤ 4096) where
-    pub disordered : goodOrder binary64 (length words) (length operands) (length cells) (view m) ≡ false → {r : Stepped} → r ≡ unchanged 6
+    pub disordered : inOrder binary64 (lent words operands cells) (view m) ≡ false → {r : Stepped} → r ≡ unchanged 6
         → StepAnswer words operands m cells code r cells
     unfolding step
     disordered o e = refused-answer 6 e (rw (le-ltb 4096 (length words) short, o))
 
-    pub performed : goodOrder binary64 (length words) (length operands) (length cells) (view m) ≡ true → {r : Stepped} {cells′ : List Float}
+    pub performed : inOrder binary64 (lent words operands cells) (view m) ≡ true → {r : Stepped} {cells′ : List Float}
         → viewStepped r ≡ perform binary64 (lent words operands cells) (view m) code → cells′ ≡ written cells (viewReleased (r .released))
         → StepAnswer words operands m cells code r cells′
     unfolding step
     performed o e w = record { answer = e ∙ rw (le-ltb 4096 (length words) short, o); after = w }
 
     -- a code beyond one byte
-    pub unknown : goodOrder binary64 (length words) (length operands) (length cells) (view m) ≡ true → 127 < code → {r : Stepped} → r ≡ unchanged 5
+    pub unknown : inOrder binary64 (lent words operands cells) (view m) ≡ true → 127 < code → {r : Stepped} → r ≡ unchanged 5
         → StepAnswer words operands m cells code r cells
     unfolding step perform
     unknown o h e = refused-answer 5 e (rw (le-ltb 4096 (length words) short, o, no-code code h))

@@ -9,23 +9,19 @@ use lib.Ieee.{Float}
 use lib.ListN.{length}
 use Rattle.theory_machine.specs.Machine as theory
 use Rattle.theory_machine.specs.Binary64.{binary64}
-use Rattle.theory_machine.specs.Steps.{inOrder}
-use Rattle.theory_machine.specs.Entries.{listRefusal}
+use Rattle.theory_machine.specs.Entries.{refusalOfEntry}
 use Rattle.theory_machine.specs.Asked.{written}
 use Rattle.machine_parts.specs.declared.parts.Machine.{Machine}
 use Rattle.machine_parts.specs.declared.parts.Record.{Record}
-use Rattle.machine_parts.specs.View.{view}
+use Rattle.machine_parts.specs.View.{view, lentWith}
 use Rattle.machine_parts.specs.Back.{machineOf, recordOf}
 use Rattle.machine_steps.specs.declared.advance.Progress.{Progress}
 use Rattle.machine_steps.specs.declared.advance.Stop.{Stop}
-use Rattle.machine_take.specs.Inside.{lentTo}
 use Rattle.machine_take.specs.Taking.{Taken, takeFrom}
 
 -- "A run checks the list, then 6"
-abbrev pub entryRefusal : Machine → (words : List ℕ) (operands : List Float) (results : ℕ) → ℕ
-entryRefusal m words operands results =
-    let L = lentTo words operands results in
-    cond (not (eqb (listRefusal binary64 L) 0)) (listRefusal binary64 L) (cond (not (inOrder binary64 L (view m))) 6 0)
+abbrev pub runRefusal : Machine → (words : List ℕ) (operands : List Float) (results : ℕ) → ℕ
+runRefusal m words operands results = refusalOfEntry binary64 (lentWith words operands results) (view m)
 
 -- "If the list or machine is refused, the answer shows 0 steps, byte place 0 and 0 records."
 unfoldable pub beginning : Machine → (words : List ℕ) (operands : List Float) (results : ℕ) → Progress
@@ -33,9 +29,9 @@ beginning m words operands results = record {
   machine = m;
   steps = 0;
   place = 0;
-  refusal = entryRefusal m words operands results;
+  refusal = runRefusal m words operands results;
   records = 0;
-  going = eqb (entryRefusal m words operands results) 0;
+  going = eqb (runRefusal m words operands results) 0;
 }
 
 abbrev pub blank : Record
@@ -58,7 +54,7 @@ stopOf p t (some r) = record {
 
 module _ (p : Progress) (words : List ℕ) (operands cells : List Float) (schedule : List ℕ) (room : ℕ) where
   abbrev pub takenOn : Taken
-  takenOn = takeFrom (lentTo words operands (length cells)) (ltb (p .records) room) schedule (length schedule) (view (p .machine)) (p .steps) (p .place)
+  takenOn = takeFrom (lentWith words operands (length cells)) (ltb (p .records) room) schedule (length schedule) (view (p .machine)) (p .steps) (p .place)
 
   -- a run that goes on; with fewer bytes than steps it is none, since each step has taken a byte or more, and nothing is done
   abbrev pub goes : Bool

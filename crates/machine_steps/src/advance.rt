@@ -1,10 +1,11 @@
 // A run from release to release. The log is not here: what is released is handed to whoever keeps it.
 use crate::step::write_released;
-use good_order::in_good_order;
+use good_order::entry_refusal;
 use machine_parts::parts::Machine;
 use machine_parts::parts::Record;
 use machine_parts::parts::Released;
 use machine_take::taking::take_codes;
+use words::Areas;
 use words::refusal;
 ghost use mathlib.Core.Path.{_≡_};
 ghost use Rattle.machine_steps.specs.Advance.{beginning, stays, advanced, cellsAfter};
@@ -28,24 +29,18 @@ pub struct Stop {
     pub released: bool,
 }
 
-fn entry_refusal(m: Machine, words: &[u32], operands: &[f64], results: usize) -> u32
-    ensures { λ r. ⌜ r ≡ beginning m (now (words .entry)) (now (operands .entry)) results .refusal ⌝ }
-{
-    let refused = words::check_list_against(words, operands.len(), results).refusal;
-    if refused != refusal::ACCEPTED {
-        return refused;
-    }
-    if !in_good_order(m, words.len(), operands.len(), results) {
-        return refusal::ORDER;
-    }
-    refusal::ACCEPTED
-}
-
 // "A run checks the list, then 6, even for an empty schedule"
 pub fn begun(m: Machine, words: &[u32], operands: &[f64], results: usize) -> Progress
     ensures { λ r. ⌜ r ≡ beginning m (now (words .entry)) (now (operands .entry)) results ⌝ }
 {
-    let refused = entry_refusal(m, words, operands, results);
+    let refused = entry_refusal(
+        m,
+        words,
+        Areas {
+            operands: operands.len(),
+            results,
+        },
+    );
     Progress {
         machine: m,
         steps: 0,

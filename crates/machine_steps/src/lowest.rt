@@ -1,14 +1,14 @@
 // The lowest permitted step.
-use good_order::in_good_order;
+use good_order::entry_refusal;
 use machine_parts::parts::Machine;
 use machine_slots::code::CODE_LIMIT;
 use machine_take::taking::take_codes;
+use words::Areas;
 use words::refusal;
 ghost use mathlib.Core.Path.{_≡_};
 ghost use Rattle.theory_machine.specs.Binary64.{binary64};
 ghost use Rattle.theory_machine.specs.Entries.{lowestPermitted, lowestStep};
-ghost use Rattle.machine_parts.specs.View.{view, lent};
-ghost use Rattle.machine_take.specs.Inside.{lentTo};
+ghost use Rattle.machine_parts.specs.View.{view, lent, lentWith};
 ghost use Rattle.machine_steps.specs.Lowest.{viewLowest, viewLowestStep};
 
 pub enum Lowest {
@@ -23,7 +23,7 @@ pub struct LowestStep {
 }
 
 fn lowest_permitted(m: Machine, words: &[u32], operands: &[f64], results: usize) -> Lowest
-    ensures { λ r. ⌜ viewLowest r ≡ lowestPermitted binary64 (lentTo (now (words .entry)) (now (operands .entry)) results) (view m) ⌝ }
+    ensures { λ r. ⌜ viewLowest r ≡ lowestPermitted binary64 (lentWith (now (words .entry)) (now (operands .entry)) results) (view m) ⌝ }
 {
     let mut code = 0;
     while code < CODE_LIMIT {
@@ -41,16 +41,17 @@ fn lowest_permitted(m: Machine, words: &[u32], operands: &[f64], results: usize)
 pub fn lowest_step(m: Machine, words: &[u32], operands: &[f64], results: &[f64]) -> LowestStep
     ensures { λ r. ⌜ viewLowestStep r ≡ lowestStep binary64 (lent (now (words .entry)) (now (operands .entry)) (now (results .entry))) (view m) ⌝ }
 {
-    let refused = words::check_list_against(words, operands.len(), results.len()).refusal;
-    if refused != 0 {
+    let refused = entry_refusal(
+        m,
+        words,
+        Areas {
+            operands: operands.len(),
+            results: results.len(),
+        },
+    );
+    if refused != refusal::ACCEPTED {
         return LowestStep {
             refusal: refused,
-            code: Lowest::Nothing,
-        };
-    }
-    if !in_good_order(m, words.len(), operands.len(), results.len()) {
-        return LowestStep {
-            refusal: refusal::ORDER,
             code: Lowest::Nothing,
         };
     }

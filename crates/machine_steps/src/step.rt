@@ -4,6 +4,7 @@ use machine_parts::parts::Machine;
 use machine_parts::parts::Released;
 use machine_parts::parts::Stepped;
 use machine_take::taking::take_codes;
+use words::Areas;
 use words::LIST_LIMIT;
 use words::refusal;
 ghost use mathlib.Core.Path.{_≡_};
@@ -49,7 +50,14 @@ pub fn step(m: Machine, words: &[u32], operands: &[f64], results: &mut [f64], co
     if LIST_LIMIT < words.len() {
         return refused(m, refusal::LIST);
     }
-    if !in_good_order(m, words.len(), operands.len(), results.len()) {
+    if !in_good_order(
+        m,
+        words,
+        Areas {
+            operands: operands.len(),
+            results: results.len(),
+        },
+    ) {
         return refused(m, refusal::ORDER);
     }
     if ONE_BYTE < code {

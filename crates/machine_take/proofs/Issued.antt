@@ -11,12 +11,13 @@ use lib.ListN.{length, getD, List·getD-map, length-map}
 use borrow.Author.Tests.{le-leb, lt-leb, eq-eqb, ne-eqb}
 use Rattle.numbers.specs.declared.Operation.{Operation}
 use Rattle.numbers.specs.Number.{numberOf}
+use Rattle.words.specs.declared.Areas.{Areas}
 use Rattle.words.specs.declared.Form.{Form}
 use Rattle.words.specs.declared.Form.the-variants.{Unknown, LD, LDR, CellArithmetic, RegisterArithmetic, STD}
 use Rattle.words.specs.Instructions.{formOf, operationField, r1Field, operandField}
 use Rattle.theory_machine.specs.Tags.{bufferCount, stationCount, storeCount, suits, registerCount}
 use Rattle.theory_machine.specs.Instruction.{Instruction, noInstruction, load, store, copy, cellArithmetic, registerArithmetic, indexOf, instruction, decode}
-use Rattle.theory_machine.specs.Machine.{Machine, Lent, Operand, num, bufferAt, stationAt, storeAt, isFreeBuffer, isFreeStation, isFreeStore}
+use Rattle.theory_machine.specs.Machine.{Machine, Lent, areasOf, Operand, num, bufferAt, stationAt, storeAt, isFreeBuffer, isFreeStation, isFreeStore}
 use Rattle.theory_machine.specs.Binary64.{binary64}
 use Rattle.theory_machine.specs.Issue.{refused, taken, lowestBuffer, lowestStation, lowestStore, cellLive, withSlot, withBoth, loaded, withCell, withRegister, storing, issueOf, issueNext, wordAt, refusalOf}
 use Rattle.theory_machine.proofs.Rows.{first-some}
@@ -91,13 +92,13 @@ pub record Reading (L : Lent Float) (place r operand : ℕ) (f : Form) : Type 0 
   pub rest : operand ≡ operandField (wordAt binary64 L place)
   pub form : f ≡ formOf (operationField (wordAt binary64 L place))
 
-registers-in : (operands results : ℕ) (i : Instruction) → WellFormed operands results i → RegistersIn i
-registers-in operands results noInstruction w = tt
-registers-in operands results (load r c) w = w .0
-registers-in operands results (store r c) w = w .0
-registers-in operands results (copy r x) w = w
-registers-in operands results (cellArithmetic o r c) w = w .0
-registers-in operands results (registerArithmetic o r x) w = w
+registers-in : (areas : Areas) (i : Instruction) → WellFormed areas i → RegistersIn i
+registers-in areas noInstruction w = tt
+registers-in areas (load r c) w = w .0
+registers-in areas (store r c) w = w .0
+registers-in areas (copy r x) w = w
+registers-in areas (cellArithmetic o r c) w = w .0
+registers-in areas (registerArithmetic o r x) w = w
 
 module _ {L : Lent Float} {place r operand : ℕ} {f : Form} (w : Reading L place r operand f) where
   decoded : decode (wordAt binary64 L place) ≡ instructionFor f r operand
@@ -108,8 +109,8 @@ module _ {L : Lent Float} {place r operand : ℕ} {f : Form} (w : Reading L plac
 
   pub well-formed : RegistersIn (instructionFor f r operand)
   well-formed =
-      registers-in (length (L .operands)) (L .results) (instructionFor f r operand)
-      (rw decoded at (word-formed (length (L .operands)) (L .results) (wordAt binary64 L place) (w .accepted)))
+      registers-in (areasOf L) (instructionFor f r operand)
+      (rw decoded at (word-formed (areasOf L) (wordAt binary64 L place) (w .accepted)))
 
   issued : (m : Machine Float) → m .next ≡ place → issueNext binary64 L m ≡ issueOf binary64 m (instructionFor f r operand)
   issued m e = rw (e, lt-leb (length (L .words)) place (w .inList), eq-eqb _ 0 (w .accepted), decoded)

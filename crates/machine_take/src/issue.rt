@@ -10,10 +10,11 @@ use machine_parts::parts::Buffer;
 use machine_parts::parts::Register;
 use machine_parts::parts::Station;
 use machine_parts::parts::StoreBuffer;
+use words::Areas;
 use words::Form;
 use words::refusal;
 ghost use mathlib.Core.Path.{_≡_};
-ghost use Rattle.machine_take.specs.Inside.{lentTo};
+ghost use Rattle.machine_parts.specs.View.{lentWith};
 ghost use Rattle.machine_take.specs.Changes.{instructionFor, RegistersIn, Issues, IssuesNext};
 
 // By the word's form, R1's index and the operand.
@@ -69,13 +70,19 @@ pub(crate) fn issue(
     operands: &[f64],
     results: usize,
 ) -> Change
-    ensures { λ c. ⌜ IssuesNext place bs ss ts (lentTo (now (words .entry)) (now (operands .entry)) results) c ⌝ }
+    ensures { λ c. ⌜ IssuesNext place bs ss ts (lentWith (now (words .entry)) (now (operands .entry)) results) c ⌝ }
 {
     if words.len() <= place {
         return not_now();
     }
     let word = words[place];
-    let bad = words::word_refusal(word, operands.len(), results);
+    let bad = words::word_refusal(
+        word,
+        Areas {
+            operands: operands.len(),
+            results,
+        },
+    );
     if bad != refusal::ACCEPTED {
         return Change::Refused(bad);
     }

@@ -14,8 +14,7 @@ use seven_bit::number_at;
 use words::refusal;
 ghost use mathlib.Core.Path.{_≡_};
 ghost use lib.ListN.{length};
-ghost use Rattle.machine_parts.specs.View.{view};
-ghost use Rattle.machine_take.specs.Inside.{lentTo};
+ghost use Rattle.machine_parts.specs.View.{view, lentWith};
 ghost use Rattle.machine_take.specs.Taking.{viewTaken, takeFrom};
 
 // Where a row of codes stops: the refusal that stopped it, 0 at a release or at the end, and the steps done.
@@ -37,7 +36,7 @@ pub fn take_codes(
     from: usize,
     room: bool,
 ) -> Taken
-    ensures { λ r. ⌜ viewTaken r ≡ takeFrom (lentTo (now (words .entry)) (now (operands .entry)) results) room (now (schedule .entry)) (length (now (schedule .entry))) (view m) 0 from ⌝ }
+    ensures { λ r. ⌜ viewTaken r ≡ takeFrom (lentWith (now (words .entry)) (now (operands .entry)) results) room (now (schedule .entry)) (length (now (schedule .entry))) (view m) 0 from ⌝ }
 {
     let mut n = m;
     let mut steps = 0;

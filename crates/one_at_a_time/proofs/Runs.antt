@@ -1,6 +1,6 @@
 -- The one-at-a-time run: where it stands after some words of the list.
 use mathlib.Core.Path.{_≡_, refl, ap, _∙_}
-use mathlib.Core.List.{List}
+use mathlib.Core.List.{List, []}
 use Prim.Native.Nat.{ℕ, zero, suc, _+_, _≤_, _<_}
 use native.Mathlib.Numerals.{add-one}
 use native.Mathlib.Omega.{arith}
@@ -9,7 +9,7 @@ use lib.ListN.{length, getD, length-set}
 use Rattle.numbers.specs.Number.{apply}
 use Rattle.words.specs.Check.{wordRefusal}
 use Rattle.theory_machine.specs.Instruction.{Instruction, noInstruction, load, store, copy, cellArithmetic, registerArithmetic, decode}
-use Rattle.theory_machine.specs.Machine.{Lent}
+use Rattle.theory_machine.specs.Machine.{Lent, areasOf}
 use Rattle.theory_machine.specs.Issue.{instructionAt}
 use Rattle.theory_machine.specs.Steps.{operandCell}
 use Rattle.theory_machine.specs.OneAtATime.{Run, value, execute, runTo}
@@ -46,7 +46,7 @@ module _ {words : List ℕ} {operands starts cells : List Float} where
   module _ {registers results : List Float} {place : ℕ} (s : Running words operands starts cells registers results place) where
     -- the next word has been checked
     pub running-checked : listRefusal binary64 (lent words operands cells) ≡ 0 → place < length words
-        → wordRefusal (length operands) (length results) (getD words place 0) ≡ 0
+        → wordRefusal (areasOf (lent [] operands results)) (getD words place 0) ≡ 0
     running-checked z h = rw (s .same) (passes binary64 (lent words operands cells) z .sound place h)
 
     pub running-four : {n : ℕ} → length starts ≡ n → length registers ≡ n

@@ -1,11 +1,15 @@
 // The one-at-a-time run (01's table of instructions, and "Refusal numbers").
 use machine_parts::parts::Register;
+use words::Areas;
 use words::Form;
+use words::check_list_against;
 use words::refusal;
 ghost use mathlib.Core.Path.{_≡_};
+ghost use mathlib.Core.List.{[]};
 ghost use lib.ListN.{length};
 ghost use Rattle.words.specs.Check.{wordRefusal};
 ghost use Rattle.theory_machine.specs.Tags.{registerCount};
+ghost use Rattle.theory_machine.specs.Machine.{areasOf};
 ghost use Rattle.theory_machine.specs.Instruction.{decode};
 ghost use Rattle.theory_machine.specs.OneAtATime.{execute};
 ghost use Rattle.theory_machine.specs.Entries.{oneAtATime};
@@ -21,7 +25,7 @@ pub struct OneAtATime {
 
 // One instruction: "R1 takes the operand"; "R1 plus, minus, times, over operand to R1"; "R1 to the result cell". The word has been checked.
 fn execute(word: u32, registers: &mut [f64; 4], operands: &[f64], results: &mut [f64])
-    requires { ⌜ wordRefusal (length (now operands)) (length (now results)) word ≡ 0 ⌝ }
+    requires { ⌜ wordRefusal (areasOf (lent [] (now operands) (now results))) word ≡ 0 ⌝ }
     requires { ⌜ length (now registers) ≡ registerCount ⌝ }
     ensures { λ r. ⌜ at (now (registers .exit)) (now (results .exit)) ≡ execute binary64 (cellsAlone (now (operands .entry))) (decode word) (at (now (registers .entry)) (now (results .entry))) ⌝ }
 {
@@ -62,7 +66,13 @@ pub fn one_at_a_time(
 ) -> OneAtATime
     ensures { λ r. ⌜ viewOneAtATime r (now (results .exit)) ≡ oneAtATime binary64 (lent (now (words .entry)) (now (operands .entry)) (now (results .entry))) (at starts (now (results .entry))) ⌝ }
 {
-    let refused = words::check_list_against(words, operands.len(), results.len()).refusal;
+    let refused = check_list_against(
+        words,
+        Areas {
+            operands: operands.len(),
+            results: results.len(),
+        },
+    ).refusal;
     if refused != 0 {
         return OneAtATime {
             registers: starts,

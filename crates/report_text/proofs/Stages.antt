@@ -77,7 +77,7 @@ module _ (found : FilesFound) (list operands schedule : List ℕ) where
         pub begun : {buffer : List ℕ} (cells₀ : List Float) {cells : List Float} {count numbers : ℕ} {fault : Fault}
             → take count buffer ≡ wordsIn (listIn 4096 list) → count ≤ 4096
             → length cells₀ ≡ 256 → numbers ≡ length (operandsIn operands) → cells ≡ sets cells₀ 0 (operandsIn operands)
-            → fault ≡ verdictFault (listCheck numbers 256 (take count buffer))
+            → fault ≡ verdictFault (listCheck (record { operands = numbers; results = 256 }) (take count buffer))
             → Begins found list operands schedule buffer cells (record { name = name.Areas; fault = fault; words = count; operands = numbers })
         begun {buffer} cells₀ {cells} {count} {numbers} {fault} w n r k e f =
             let front = front-numbers operands cells₀ (few-bytes (found .operands) operands two) r k e in

@@ -6,6 +6,7 @@ use crate::faults::schedule_fault;
 use crate::operands::read_operands;
 use list_file::reader::read;
 use theory_report::Fault;
+use words::Areas;
 use words::CELL_LIMIT;
 use words::check_list_against;
 use words::refusal;
@@ -80,9 +81,15 @@ fn read_list(bytes: &[u8], found: bool, words: &mut [u32]) -> ListFound
 
 // The list against so many operand cells and 256 result cells.
 fn areas_fault(words: &[u32], operands: usize) -> Fault
-    ensures { λ r. ⌜ r ≡ verdictFault (listCheck operands cellLimit (now (words .entry))) ⌝ }
+    ensures { λ r. ⌜ r ≡ verdictFault (listCheck (record { operands = operands; results = cellLimit }) (now (words .entry))) ⌝ }
 {
-    let verdict = check_list_against(words, operands, CELL_LIMIT);
+    let verdict = check_list_against(
+        words,
+        Areas {
+            operands,
+            results: CELL_LIMIT,
+        },
+    );
     if verdict.refusal == 0 {
         return Fault::Nothing;
     }

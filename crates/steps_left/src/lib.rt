@@ -1,4 +1,5 @@
 // Steps left, and whether a machine is drained (01, "Steps" and "Drained").
+use good_order::entry_refusal;
 use machine_parts::parts::Buffer;
 use machine_parts::parts::BufferState;
 use machine_parts::parts::Machine;
@@ -6,6 +7,7 @@ use machine_parts::parts::Station;
 use machine_parts::parts::StationState;
 use machine_parts::parts::StoreBuffer;
 use machine_parts::parts::StoreState;
+use words::Areas;
 use words::Form;
 use words::refusal;
 ghost use mathlib.Core.Path.{_≡_};
@@ -129,16 +131,17 @@ fn words_left(words: &[u32], next: usize) -> usize
 pub fn steps_left(m: Machine, words: &[u32], operands: &[f64], results: &[f64]) -> Left
     ensures { λ r. ⌜ viewLeft r ≡ stepsLeft binary64 (lent (now (words .entry)) (now (operands .entry)) (now (results .entry))) (view m) ⌝ }
 {
-    let refused = words::check_list_against(words, operands.len(), results.len()).refusal;
-    if refused != 0 {
+    let refused = entry_refusal(
+        m,
+        words,
+        Areas {
+            operands: operands.len(),
+            results: results.len(),
+        },
+    );
+    if refused != refusal::ACCEPTED {
         return Left {
             refusal: refused,
-            left: 0,
-        };
-    }
-    if !good_order::in_good_order(m, words.len(), operands.len(), results.len()) {
-        return Left {
-            refusal: refusal::ORDER,
             left: 0,
         };
     }

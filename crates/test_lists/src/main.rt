@@ -3,6 +3,7 @@
 use libc::STDOUT_FILENO;
 use list_file::reader::read;
 use list_file::writer::write;
+use words::Areas;
 use words::Verdict;
 use words::check_list;
 use words::check_list_against;
@@ -78,7 +79,16 @@ fn verdict(what: &[u8], v: Verdict) {
 // A list of words: alone, against areas of 2 and 3 cells, and written with room for 12 bytes.
 fn list_words(list: &[u32]) {
     verdict(b" alone ", check_list(list));
-    verdict(b" areas ", check_list_against(list, 2, 3));
+    verdict(
+        b" areas ",
+        check_list_against(
+            list,
+            Areas {
+                operands: 2,
+                results: 3,
+            },
+        ),
+    );
     let mut file = [9u8; 12];
     let written = write(list, &mut file);
     answer(b" write ", written.refusal, written.place);

@@ -9,7 +9,7 @@ use lib.ListN.{length, getD, set, List·getD-map, length-set}
 use lib.Seq.{getD-set-same, getD-set-other}
 use Rattle.theory_machine.specs.Tags.{registerCount, bufferTag, stationTag}
 use Rattle.theory_machine.specs.Instruction.{Instruction, noInstruction, load, store, copy, cellArithmetic, registerArithmetic}
-use Rattle.theory_machine.specs.Machine.{Kind, Lent, Operand, num, tag, Buffer, waiting, Station, holding, StoreBuffer, freeStore, live, Machine, nextIs, storesAre, putStore, Shape, storeAt, registerAt, storeCell}
+use Rattle.theory_machine.specs.Machine.{Kind, Lent, areasOf, Operand, num, tag, Buffer, waiting, Station, holding, StoreBuffer, freeStore, live, Machine, nextIs, storesAre, putStore, Shape, storeAt, registerAt, storeCell}
 use Rattle.theory_machine.specs.GoodOrder.{giverOf}
 use Rattle.theory_machine.specs.Issue.{instructionAt}
 use Rattle.theory_machine.specs.Steps.{giveStore}
@@ -100,7 +100,7 @@ module _ (K : Kind) (L : Lent (K .Num)) (start : Run (K .Num)) where
             ⊎-elim (λ (y : j ≡ t). λ z. Option·none-ne-some d (sym (ap storeCell (w .1 .1)) ∙ (rw y at z)))
             (λ (y : j ≢ t). rw (getD-set-other (m .stores) t j new freeStore y) at (k j)) (eqb-cases j t)
 
-    issue-right : (i : Instruction) (b s t : ℕ) → instructionAt K L q ≡ i → Room m i b s t → WellFormed (length (L .operands)) (L .results) i
+    issue-right : (i : Instruction) (b s t : ℕ) → instructionAt K L q ≡ i → Room m i b s t → WellFormed (areasOf L) i
         → Inv K (right K L start (suc q)) (issued K m i b s t) → Right (issued K m i b s t) cells
     issue-right noInstruction b s t e r w I = absurd r
     issue-right (load a c) b s t e r w I = quiet-issue (issued K m (load a c) b s t) (rw e) I

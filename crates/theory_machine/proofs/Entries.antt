@@ -14,15 +14,16 @@ use Rattle.words.specs.Instructions.{listLimit}
 use Rattle.theory_machine.specs.Rows.{first}
 use Rattle.theory_machine.specs.Tags.{registerCount, bufferCount, stationCount, storeCount}
 use Rattle.theory_machine.specs.Codes.{codeLimit}
-use Rattle.theory_machine.specs.Machine.{Kind, Lent, num, Buffer, freeBuffer, Station, freeStation, StoreBuffer, freeStore, Machine, Shape, storeCell}
+use Rattle.theory_machine.specs.Machine.{Kind, Lent, areasOf, num, Buffer, freeBuffer, Station, freeStation, StoreBuffer, freeStore, Machine, Shape, storeCell}
 use Rattle.theory_machine.specs.Issue.{isTaken}
 use Rattle.theory_machine.specs.Steps.{perform, inOrder, step}
 use Rattle.theory_machine.specs.Count.{wordsLeft, bufferLeft, stationLeft, storeLeft, countLeft}
 use Rattle.theory_machine.specs.OneAtATime.{Run, runTo}
-use Rattle.theory_machine.specs.Entries.{emptyMachine, listRefusal, lowestPermitted, fresh, oneAtATime, stepsLeft, lowestStep}
+use Rattle.theory_machine.specs.Entries.{emptyMachine, listRefusal, refusalOfEntry, lowestPermitted, fresh, oneAtATime, stepsLeft, lowestStep}
 use Rattle.theory_machine.specs.Statement.{RefusedEntries, Permitted, isDrained, IsLowest}
 use Rattle.theory_machine.proofs.Rows.{bool-cases, absurd-bool, IsFirst, first-some, first-none, getD-all, sum-zero}
 use Rattle.theory_machine.proofs.Words.{Passes, passes}
+use Rattle.theory_machine.proofs.Checks.{by-list, by-order, both-pass}
 use Rattle.theory_machine.proofs.Moves.{step-view}
 use Rattle.theory_machine.proofs.GoodOrder.{Good, good-of, of-good}
 use Rattle.theory_machine.proofs.Order.{good-order-kept}
@@ -51,16 +52,38 @@ module _ (K : Kind) (L : Lent (K .Num)) where
     distinct = λ i j c d p q. let z : _≡_ {A = ℕ} 0 1 = cc (ap storeCell (getD-all {A = StoreBuffer (K .Num)} storeCount i freeStore)) in omega arith;
   }
 
+  -- THE ENTRIES THAT CHECK THE LIST AND THEN 6, by what their check gives
+  pub left-refused : (m : Machine (K .Num)) → (refusalOfEntry K L m ≡ 0 → ⊥) → stepsLeft K L m ≡ record { refusal = refusalOfEntry K L m; left = 0 }
+  unfolding stepsLeft
+  left-refused m n = rw (ne-eqb (refusalOfEntry K L m) 0 n)
+
+  pub left-counted : (m : Machine (K .Num)) → refusalOfEntry K L m ≡ 0 → stepsLeft K L m ≡ record { refusal = 0; left = countLeft (L .words) m }
+  unfolding stepsLeft
+  left-counted m z = rw (eq-eqb (refusalOfEntry K L m) 0 z, z)
+
+  pub lowest-refused : (m : Machine (K .Num)) → (refusalOfEntry K L m ≡ 0 → ⊥) → lowestStep K L m ≡ record { refusal = refusalOfEntry K L m; code = none }
+  unfolding lowestStep
+  lowest-refused m n = rw (ne-eqb (refusalOfEntry K L m) 0 n)
+
+  pub lowest-found : (m : Machine (K .Num)) → refusalOfEntry K L m ≡ 0 → lowestStep K L m ≡ record { refusal = 0; code = lowestPermitted K L m }
+  unfolding lowestStep
+  lowest-found m z = rw (eq-eqb (refusalOfEntry K L m) 0 z, z)
+
   -- WHERE A CHECK FAILS
   pub refused-entries : RefusedEntries K L
-  unfolding fresh oneAtATime stepsLeft lowestStep step
+  unfolding fresh oneAtATime step
   refused-entries = (
     λ z. let e : eqb (listRefusal K L) 0 ≡ false = ne-eqb (listRefusal K L) 0 z in
-        record { ofFresh = λ starts. rw e; ofRun = λ start. rw e; ofStepsLeft = λ m. rw e; ofLowestStep = λ m. rw e },
-    λ z m o. let e : eqb (listRefusal K L) 0 ≡ true = eq-eqb (listRefusal K L) 0 z in
         record {
-          ofStepsLeft = rw (e, o);
-          ofLowestStep = rw (e, o);
+          ofFresh = λ starts. rw e;
+          ofRun = λ start. rw e;
+          ofStepsLeft = λ m. rw (← by-list K (L .words) (areasOf L) m z) (left-refused m (λ e. z (sym (by-list K (L .words) (areasOf L) m z) ∙ e)));
+          ofLowestStep = λ m. rw (← by-list K (L .words) (areasOf L) m z) (lowest-refused m (λ e. z (sym (by-list K (L .words) (areasOf L) m z) ∙ e)));
+        },
+    λ z m o. let e = by-order K (L .words) (areasOf L) m z o in
+        record {
+          ofStepsLeft = rw (← e) (left-refused m (λ z. omega (arith, sym e ∙ z)));
+          ofLowestStep = rw (← e) (lowest-refused m (λ z. omega (arith, sym e ∙ z)));
           ofStep = λ code. rw (le-ltb listLimit (length (L .words)) (passes K L z .short), o);
         },
   )
@@ -89,12 +112,10 @@ module _ (K : Kind) (L : Lent (K .Num)) where
     one-at-a-time-is start = rw (eq-eqb (listRefusal K L) 0 z)
 
     pub left-is : (m : Machine (K .Num)) → inOrder K L m ≡ true → stepsLeft K L m ≡ record { refusal = 0; left = countLeft (L .words) m }
-    unfolding stepsLeft
-    left-is m o = rw (eq-eqb (listRefusal K L) 0 z, o)
+    left-is m o = left-counted m (both-pass K (L .words) (areasOf L) m z o)
 
     pub lowest-is : (m : Machine (K .Num)) → inOrder K L m ≡ true → lowestStep K L m ≡ record { refusal = 0; code = lowestPermitted K L m }
-    unfolding lowestStep
-    lowest-is m o = rw (eq-eqb (listRefusal K L) 0 z, o)
+    lowest-is m o = lowest-found m (both-pass K (L .words) (areasOf L) m z o)
 
     P : Passes K L
     P = passes K L z

@@ -14,6 +14,7 @@ pub mod Progress
 pub mod Right
 pub mod Cells
 pub mod Log
+pub mod Checks
 pub mod Entries
 pub mod OrderTheorem
 pub mod Corollaries

@@ -13,7 +13,7 @@ use Rattle.words.specs.Instructions.{listLimit}
 use Rattle.theory_machine.specs.Rows.{allBelow}
 use Rattle.theory_machine.specs.Tags.{bufferCount, stationCount, storeCount, suits}
 use Rattle.theory_machine.specs.Instruction.{Instruction, noInstruction, load, store, copy, cellArithmetic, registerArithmetic}
-use Rattle.theory_machine.specs.Machine.{Kind, Lent, num, tag, Buffer, freeBuffer, waiting, full, Station, freeStation, holding, done, StoreBuffer, freeStore, live, Machine, Record, bufferAt, stationAt, storeAt, isFreeBuffer, isFreeStation, isFreeStore, storeCell}
+use Rattle.theory_machine.specs.Machine.{Kind, Lent, areasOf, num, tag, Buffer, freeBuffer, waiting, full, Station, freeStation, holding, done, StoreBuffer, freeStore, live, Machine, Record, bufferAt, stationAt, storeAt, isFreeBuffer, isFreeStation, isFreeStore, storeCell}
 use Rattle.theory_machine.specs.GoodOrder.{hasCell}
 use Rattle.theory_machine.specs.Issue.{Answer, refused, taken, lowestBuffer, lowestStation, lowestStore, cellLive, withSlot, withBoth, loaded, withCell, withRegister, storing, issueOf, wordAt, instructionAt, refusalOf, issueNext}
 use Rattle.theory_machine.specs.Codes.{Step, unknownCode, issue, arrival, completion, bufferGrant, stationGrant, release, stepOf}
@@ -71,7 +71,7 @@ module _ (K : Kind) (L : Lent (K .Num)) where
 
   pub data Move (m : Machine (K .Num)) : Type 0 where
     issuing : (b s t : ℕ) → m .next < length (L .words) → Room m (instructionAt K L (m .next)) b s t
-        → WellFormed (length (L .operands)) (L .results) (instructionAt K L (m .next)) → Move m
+        → WellFormed (areasOf L) (instructionAt K L (m .next)) → Move m
     arriving : (i p c : ℕ) → i < bufferCount → bufferAt m i ≡ waiting p c → Move m
     completing : (i p : ℕ) (o : Operation) (x y : K .Num) → i < stationCount → stationAt m i ≡ holding p o (num x) (num y) → Move m
     grantingBuffer : (i p : ℕ) (v : K .Num) → i < bufferCount → bufferAt m i ≡ full p v → Move m
@@ -149,7 +149,7 @@ module _ (K : Kind) (L : Lent (K .Num)) where
     two-slots i none p k f = full-up i
     two-slots i (some j) p k f = one-slot i p (k j) (λ l e. f j l refl e)
 
-    of-instruction : (i : Instruction) → WellFormed (length (L .operands)) (L .results) i → Issues i (issueOf K m i)
+    of-instruction : (i : Instruction) → WellFormed (areasOf L) i → Issues i (issueOf K m i)
     of-instruction noInstruction w = absurd w
     of-instruction (load r c) w =
         one-slot (load r c) (lowestBuffer m) (λ b. loaded K m r c b) (λ b e. found b 0 0 (w .0, a-buffer m b e) refl refl refl)
@@ -171,9 +171,9 @@ module _ (K : Kind) (L : Lent (K .Num)) where
         cond-cases (Reply m) (leb (length (L .words)) q) (λ _. not-now)
         (λ l. cond-cases (Reply m) (not (eqb n 0)) (λ k. no n (eqb-false n 0 (not-true (eqb n 0) k)))
         (λ k. go (leb-false (length (L .words)) q l)
-        (word-formed (length (L .operands)) (L .results) (wordAt K L q) (eqb-true n 0 (not-false (eqb n 0) k)))))
+        (word-formed (areasOf L) (wordAt K L q) (eqb-true n 0 (not-false (eqb n 0) k)))))
       where
-        go : m .next < length (L .words) → WellFormed (length (L .operands)) (L .results) (instructionAt K L (m .next))
+        go : m .next < length (L .words) → WellFormed (areasOf L) (instructionAt K L (m .next))
             → Reply m (issueOf K m (instructionAt K L (m .next)))
         go l w = turn (of-instruction (instructionAt K L (m .next)) w)
           where

@@ -11,7 +11,7 @@ use lib.Seq.{getD-set-other}
 use borrow.Author.Tests.{ltb-true, leb-true, lt-ltb, le-leb}
 use Rattle.theory_machine.specs.Tags.{bufferTag, stationTag}
 use Rattle.theory_machine.specs.Instruction.{Instruction, noInstruction, load, store, copy, cellArithmetic, registerArithmetic}
-use Rattle.theory_machine.specs.Machine.{Kind, Lent, StoreBuffer, freeStore, live, Machine, Shape, registerAt, storeCell}
+use Rattle.theory_machine.specs.Machine.{Kind, Lent, areasOf, StoreBuffer, freeStore, live, Machine, Shape, registerAt, storeCell}
 use Rattle.theory_machine.specs.GoodOrder.{Giver, nobody, fromBuffer, fromStation, before}
 use Rattle.theory_machine.specs.Issue.{Answer, instructionAt}
 use Rattle.theory_machine.specs.Steps.{giveStore, perform, inOrder}
@@ -53,7 +53,7 @@ module _ (K : Kind) (L : Lent (K .Num)) where
     onStored = λ p. later n (stored p) (stored p) (omega arith);
   }
 
-  issues : (q : ℕ) (i : Instruction) → WellFormed (length (L .operands)) (L .results) i → Issues K (orderly K L q) (orderly K L (suc q)) q i
+  issues : (q : ℕ) (i : Instruction) → WellFormed (areasOf L) i → Issues K (orderly K L q) (orderly K L (suc q)) q i
   issues q noInstruction w = tt
   issues q (load r c) w = ((omega arith, w .1), le-leb q (suc q) (omega arith), λ j d. later q (register j) (register j) (omega arith))
   issues q (copy r x) w = (later q (register x) (register r) (omega arith), λ j d. later q (register j) (register j) (omega arith))

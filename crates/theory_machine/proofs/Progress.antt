@@ -13,7 +13,7 @@ use Rattle.numbers.specs.declared.Operation.the-variants.{Add, Subtract, Multip
 use Rattle.theory_machine.specs.Rows.{allBelow}
 use Rattle.theory_machine.specs.Tags.{bufferCount, stationCount, storeCount, Slot, neither, buffer, station, slotOf, suits}
 use Rattle.theory_machine.specs.Instruction.{Instruction, noInstruction, load, store, copy, cellArithmetic, registerArithmetic}
-use Rattle.theory_machine.specs.Machine.{Kind, Lent, num, tag, Buffer, freeBuffer, waiting, full, Station, freeStation, holding, done, StoreBuffer, freeStore, live, Machine, Shape, bufferAt, stationAt, storeAt, isFreeBuffer, isFreeStation, isFreeStore, storeCell}
+use Rattle.theory_machine.specs.Machine.{Kind, Lent, areasOf, num, tag, Buffer, freeBuffer, waiting, full, Station, freeStation, holding, done, StoreBuffer, freeStore, live, Machine, Shape, bufferAt, stationAt, storeAt, isFreeBuffer, isFreeStation, isFreeStore, storeCell}
 use Rattle.theory_machine.specs.GoodOrder.{fromStation, bufferGiver, stationGiver, giverIn, giver, giverOf, hasCell, before, nothingLive, drained}
 use Rattle.theory_machine.specs.Issue.{lowestBuffer, lowestStation, lowestStore, cellLive, issueOf, wordAt, instructionAt, refusalOf}
 use Rattle.theory_machine.specs.Codes.{firstCode, lastCode, codeTable, codeLimit}
@@ -192,7 +192,7 @@ module _ (K : Kind) (L : Lent (K .Num)) (m : Machine (K .Num)) where
     no-live : (c : ℕ) → cellLive m c ≡ false
     no-live c = ap not (allBelow-of storeCount (λ i. not (hasCell c (storeCell (storeAt m i)))) (λ i h. rw (z .noStore i)))
 
-    issue-goes : (i : Instruction) → WellFormed (length (L .operands)) (L .results) i → issueOf K m i .refusal ≡ 0
+    issue-goes : (i : Instruction) → WellFormed (areasOf L) i → issueOf K m i .refusal ≡ 0
     issue-goes noInstruction w = absurd w
     issue-goes (load r c) w = rw (a-buffer .1)
     issue-goes (copy r x) w = refl
@@ -204,7 +204,7 @@ module _ (K : Kind) (L : Lent (K .Num)) (m : Machine (K .Num)) where
     next-goes P h =
         by K L m ofIssue 0 (omega arith) (omega arith) (omega arith)
         (rw (lt-leb (length (L .words)) (m .next) h, eq-eqb (refusalOf K L (wordAt K L (m .next))) 0 (P .sound (m .next) h))
-        (issue-goes (instructionAt K L (m .next)) (word-formed (length (L .operands)) (L .results) (wordAt K L (m .next)) (P .sound (m .next) h))))
+        (issue-goes (instructionAt K L (m .next)) (word-formed (areasOf L) (wordAt K L (m .next)) (P .sound (m .next) h))))
 
   -- UNTIL DRAINED a step is permitted
   pub progress : Passes K L → Shape m → Good K L m → drained (length (L .words)) m ≡ false → Goes K L m 0

@@ -7,7 +7,7 @@ use lib.ListN.{length, length-set}
 use lib.Seq.{getD-set-same, getD-set-other}
 use Rattle.theory_machine.specs.Tags.{registerCount}
 use Rattle.theory_machine.specs.Instruction.{Instruction, noInstruction, load, store, copy, cellArithmetic, registerArithmetic, r1Of}
-use Rattle.theory_machine.specs.Machine.{Kind, Lent}
+use Rattle.theory_machine.specs.Machine.{Kind, Lent, areasOf}
 use Rattle.theory_machine.specs.GoodOrder.{Giver, nobody, fromBuffer, fromStation}
 use Rattle.theory_machine.specs.Issue.{instructionAt}
 use Rattle.theory_machine.specs.Steps.{operandCell}
@@ -123,7 +123,7 @@ module _ (K : Kind) (L : Lent (K .Num)) (start : Run (K .Num)) where
     put-other : (n r : ℕ) (v : K .Num) (j : ℕ) → j ≢ r → value K (at n) j ≡ value K (registerTakes K (at n) r v) j
     put-other n r v j d = sym (getD-set-other (at n .registers) r j v (K .nought) d)
 
-    pub issues : (q : ℕ) (i : Instruction) → instructionAt K L q ≡ i → WellFormed (length (L .operands)) (L .results) i
+    pub issues : (q : ℕ) (i : Instruction) → instructionAt K L q ≡ i → WellFormed (areasOf L) i
         → Issues K (right q) (right (suc q)) q i
     issues q noInstruction e w = tt
     issues q (load r c) e w =

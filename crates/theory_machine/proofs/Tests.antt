@@ -7,7 +7,7 @@ use lib.Dec.{leb, eqb}
 use lib.ListN.{length, getD}
 use Rattle.theory_machine.specs.Rows.{allBelow}
 use Rattle.theory_machine.specs.Tags.{registerCount, bufferCount, stationCount, storeCount}
-use Rattle.theory_machine.specs.Machine.{Kind, Lent, num, Buffer, freeBuffer, Station, freeStation, StoreBuffer, freeStore, Machine, Shape, bufferAt, stationAt, storeAt, registerAt, bufferPlace, stationPlace, storePlace, bufferCell, storeCell}
+use Rattle.theory_machine.specs.Machine.{Kind, Lent, areasOf, num, Buffer, freeBuffer, Station, freeStation, StoreBuffer, freeStore, Machine, Shape, bufferAt, stationAt, storeAt, registerAt, bufferPlace, stationPlace, storePlace, bufferCell, storeCell}
 use Rattle.theory_machine.specs.GoodOrder.{placeBelow, cellIn, apart, named, stationNamed, storeNamed, stationHeld, storeHeld, kindFits, placeTests, nameTests, beforeTests, cellTests, clauses, goodOrder}
 use Rattle.theory_machine.specs.Steps.{inOrder}
 use Rattle.theory_machine.proofs.Rows.{and-i, or-i, allOf-at, allBelow-of, row-of}
@@ -51,12 +51,12 @@ module _ (K : Kind) (L : Lent (K .Num)) (m : Machine (K .Num)) where
     pub tests-of : inOrder K L m ≡ true → Tests
     unfolding goodOrder
     tests-of e =
-        let t : (k : ℕ) → getD (clauses K (length (L .words)) (length (L .operands)) (L .results) m) k true ≡ true =
-        allOf-at (clauses K (length (L .words)) (length (L .operands)) (L .results) m) e in
+        let t : (k : ℕ) → getD (clauses K (L .words) (areasOf L) m) k true ≡ true =
+        allOf-at (clauses K (L .words) (areasOf L) m) e in
         let place = allOf-at (placeTests K m) (t 1) in
         let name = allOf-at (nameTests K m) (t 2) in
         let held = allOf-at (beforeTests K m) (t 3) in
-        let cells = allOf-at (cellTests K (length (L .operands)) (L .results) m) (t 5) in
+        let cells = allOf-at (cellTests K (areasOf L) m) (t 5) in
         record {
           next = t 0;
           bufferPlaces = buffers-pass (λ i b. placeBelow n (bufferPlace b)) (λ i. refl) (place 0);

@@ -1,17 +1,19 @@
 -- The entries that check for themselves (document 01, "Refusal numbers"): fresh machine, one-at-a-time run, steps left, lowest step.
 use mathlib.Core.Bool.{cond, not}
 use mathlib.Core.Option.{Option, none}
-use mathlib.Core.List.{List, map}
+use mathlib.Core.List.{List, [], _∷_, map}
 use Prim.Native.Nat.{ℕ}
 use lib.Dec.{eqb}
 use lib.ListN.{length, replicate}
-use Rattle.words.specs.Check.{listCheck}
+use Rattle.words.specs.declared.Areas.{Areas}
+use Rattle.words.specs.Check.{firstOf, listCheck}
 use Rattle.theory_machine.specs.Rows.{first}
 use Rattle.theory_machine.specs.Tags.{registerCount, bufferCount, stationCount, storeCount}
 use Rattle.theory_machine.specs.Codes.{codeLimit}
-use Rattle.theory_machine.specs.Machine.{Kind, Lent, num, freeBuffer, freeStation, freeStore, Machine, standing}
+use Rattle.theory_machine.specs.Machine.{Kind, Lent, areasOf, num, freeBuffer, freeStation, freeStore, Machine, standing}
 use Rattle.theory_machine.specs.Issue.{isTaken}
-use Rattle.theory_machine.specs.Steps.{perform, inOrder}
+use Rattle.theory_machine.specs.GoodOrder.{goodOrder}
+use Rattle.theory_machine.specs.Steps.{perform}
 use Rattle.theory_machine.specs.Count.{countLeft}
 use Rattle.theory_machine.specs.OneAtATime.{Run, runTo}
 
@@ -36,10 +38,17 @@ abbrev pub emptyMachine : {A : Type 0} → List A → Machine A
 emptyMachine numbers =
     standing 0 (map num numbers) (replicate bufferCount freeBuffer) (replicate stationCount freeStation) (replicate storeCount freeStore)
 
+-- "check the list and then 6": what steps left, the lowest step and a run are refused with
+unfoldable pub entryRefusal : (K : Kind) (words : List ℕ) → Areas → Machine (K .Num) → ℕ
+entryRefusal K words areas m = firstOf (listCheck areas words .refusal ∷ cond (goodOrder K words areas m) 0 6 ∷ [])
+
 module _ (K : Kind) (L : Lent (K .Num)) where
   -- the list against its areas
   abbrev pub listRefusal : ℕ
-  listRefusal = listCheck (length (L .operands)) (L .results) (L .words) .refusal
+  listRefusal = listCheck (areasOf L) (L .words) .refusal
+
+  abbrev pub refusalOfEntry : Machine (K .Num) → ℕ
+  refusalOfEntry m = entryRefusal K (L .words) (areasOf L) m
 
   -- the smallest code that a machine in good order permits
   unfoldable pub lowestPermitted : Machine (K .Num) → Option ℕ
@@ -60,14 +69,8 @@ module _ (K : Kind) (L : Lent (K .Num)) where
 
   -- "Steps left gives 0 when refused"; "Steps left, and the lowest permitted step, check the list and then 6."
   unfoldable pub stepsLeft : Machine (K .Num) → StepsLeft
-  stepsLeft m =
-      cond (not (eqb listRefusal 0)) (record { refusal = listRefusal; left = 0 })
-      (cond (not (inOrder K L m)) (record { refusal = 6; left = 0 })
-      (record { refusal = 0; left = countLeft (L .words) m }))
+  stepsLeft m = record { refusal = refusalOfEntry m; left = cond (eqb (refusalOfEntry m) 0) (countLeft (L .words) m) 0 }
 
   -- "the lowest step none": "answers the smallest permitted code, or none exactly when drained"
   unfoldable pub lowestStep : Machine (K .Num) → LowestStep
-  lowestStep m =
-      cond (not (eqb listRefusal 0)) (record { refusal = listRefusal; code = none })
-      (cond (not (inOrder K L m)) (record { refusal = 6; code = none })
-      (record { refusal = 0; code = lowestPermitted m }))
+  lowestStep m = record { refusal = refusalOfEntry m; code = cond (eqb (refusalOfEntry m) 0) (lowestPermitted m) none }

@@ -4,7 +4,8 @@ use mathlib.Core.Option.{Option, none, some}
 use mathlib.Core.List.{List, [], _∷_}
 use Prim.Native.Nat.{ℕ}
 use lib.Dec.{ltb, leb, eqb}
-use lib.ListN.{getD}
+use lib.ListN.{length, getD}
+use Rattle.words.specs.declared.Areas.{Areas}
 use Rattle.words.specs.Instructions.{isCell}
 use Rattle.theory_machine.specs.Rows.{allOf, allBelow}
 use Rattle.theory_machine.specs.Tags.{registerCount, bufferCount, stationCount, storeCount, Slot, neither, buffer, station, slotOf, suits}
@@ -107,8 +108,8 @@ kindFits i (done p v) = true
 -- THE CLAUSES, in 01's order; where a clause speaks of several rows, with one test a row
 module _ (K : Kind) where
   -- "the next place is at most the list's length"
-  abbrev pub nextInList : (list : ℕ) → Machine (K .Num) → Bool
-  nextInList list m = leb (m .next) list
+  abbrev pub nextInList : (words : List ℕ) → Machine (K .Num) → Bool
+  nextInList words m = leb (m .next) (length words)
 
   -- "each held place is below it"
   abbrev pub placeTests : Machine (K .Num) → List Bool
@@ -147,34 +148,34 @@ module _ (K : Kind) where
   kindsFit m = allBelow stationCount (λ i. kindFits i (stationAt m i))
 
   -- "cells are below 256 and below their area's length"
-  abbrev pub cellTests : (operands results : ℕ) → Machine (K .Num) → List Bool
-  cellTests operands results m =
-      allBelow bufferCount (λ i. cellIn operands (bufferCell (bufferAt m i)))
-      ∷ allBelow storeCount (λ i. cellIn results (storeCell (storeAt m i)))
+  abbrev pub cellTests : Areas → Machine (K .Num) → List Bool
+  cellTests areas m =
+      allBelow bufferCount (λ i. cellIn (areas .operands) (bufferCell (bufferAt m i)))
+      ∷ allBelow storeCount (λ i. cellIn (areas .results) (storeCell (storeAt m i)))
       ∷ []
 
-  abbrev pub cellsInAreas : (operands results : ℕ) → Machine (K .Num) → Bool
-  cellsInAreas operands results m = allOf (cellTests operands results m)
+  abbrev pub cellsInAreas : Areas → Machine (K .Num) → Bool
+  cellsInAreas areas m = allOf (cellTests areas m)
 
   -- "no two live store buffers have the same cell"
   abbrev pub storesApart : Machine (K .Num) → Bool
   storesApart m =
       allBelow storeCount (λ i. allBelow storeCount (λ j. eqb i j || apart (storeCell (storeAt m i)) (storeCell (storeAt m j))))
 
-  abbrev pub clauses : (list operands results : ℕ) → Machine (K .Num) → List Bool
-  clauses list operands results m =
-      nextInList list m
+  abbrev pub clauses : (words : List ℕ) → Areas → Machine (K .Num) → List Bool
+  clauses words areas m =
+      nextInList words m
       ∷ placesBelow m
       ∷ tagsNamed m
       ∷ tagsBefore m
       ∷ kindsFit m
-      ∷ cellsInAreas operands results m
+      ∷ cellsInAreas areas m
       ∷ storesApart m
       ∷ []
 
-  -- "Good order, with the lent list and areas": their lengths
-  unfoldable pub goodOrder : (list operands results : ℕ) → Machine (K .Num) → Bool
-  goodOrder list operands results m = allOf (clauses list operands results m)
+  -- "Good order, with the lent list and areas"
+  unfoldable pub goodOrder : (words : List ℕ) → Areas → Machine (K .Num) → Bool
+  goodOrder words areas m = allOf (clauses words areas m)
 
 -- "every buffer, station and store buffer is free"
 unfoldable pub nothingLive : {A : Type 0} → Machine A → Bool

@@ -9,7 +9,7 @@ use Rattle.words.specs.Check.{wordRefusal}
 use Rattle.theory_machine.specs.Rows.{allBelow, first}
 use Rattle.theory_machine.specs.Tags.{bufferCount, stationCount, storeCount, bufferTag, stationTag, suits}
 use Rattle.theory_machine.specs.Instruction.{Instruction, noInstruction, load, store, copy, cellArithmetic, registerArithmetic, decode}
-use Rattle.theory_machine.specs.Machine.{Kind, Lent, tag, waiting, holding, live, Machine, Record, nextIs, putRegister, putBuffer, putStation, putStore, bufferAt, stationAt, storeAt, registerAt, isFreeBuffer, isFreeStation, isFreeStore, storeCell}
+use Rattle.theory_machine.specs.Machine.{Kind, Lent, areasOf, tag, waiting, holding, live, Machine, Record, nextIs, putRegister, putBuffer, putStation, putStore, bufferAt, stationAt, storeAt, registerAt, isFreeBuffer, isFreeStation, isFreeStore, storeCell}
 use Rattle.theory_machine.specs.GoodOrder.{hasCell}
 
 -- AN ANSWER: the refusal number (0: accepted), the machine, and what was released, if anything
@@ -105,7 +105,7 @@ module _ (K : Kind) where
 
     -- 2, 3, 4 for a word, against its areas
     abbrev pub refusalOf : (word : ℕ) → ℕ
-    refusalOf word = wordRefusal (length (L .operands)) (L .results) word
+    refusalOf word = wordRefusal (areasOf L) word
 
     -- "for an issue at the list's end 7, else 2, 3, 4 for that word, then 7"
     abbrev pub issueNext : Machine (K .Num) → Answer (K .Num)

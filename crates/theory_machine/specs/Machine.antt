@@ -6,6 +6,7 @@ use mathlib.Core.List.{List}
 use Prim.Native.Nat.{ℕ}
 use lib.ListN.{length, getD, set}
 use Rattle.numbers.specs.declared.Operation.{Operation}
+use Rattle.words.specs.declared.Areas.{Areas}
 use Rattle.theory_machine.specs.Tags.{registerCount, bufferCount, stationCount, storeCount}
 
 -- A KIND OF NUMBER: a type, its zero, and the four operations. Nothing is assumed of them.
@@ -19,6 +20,9 @@ pub record Lent (A : Type 0) : Type 0 where
   pub words : List ℕ
   pub operands : List A
   pub results : ℕ
+
+abbrev pub areasOf : {A : Type 0} → Lent A → Areas
+areasOf L = record { operands = length (L .operands); results = L .results }
 
 -- "An operand is either a number or the tag it waits for."
 pub data Operand (A : Type 0) : Type 0 where

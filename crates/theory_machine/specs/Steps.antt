@@ -8,7 +8,7 @@ use lib.ListN.{length, getD}
 use Rattle.words.specs.Instructions.{listLimit}
 use Rattle.theory_machine.specs.Tags.{bufferTag, stationTag}
 use Rattle.theory_machine.specs.Codes.{Step, unknownCode, issue, arrival, completion, bufferGrant, stationGrant, release, stepOf}
-use Rattle.theory_machine.specs.Machine.{Kind, Lent, Operand, num, tag, Buffer, freeBuffer, waiting, full, Station, freeStation, holding, done, StoreBuffer, freeStore, live, Machine, registersAre, stationsAre, storesAre, putBuffer, putStation, putStore, bufferAt, stationAt, storeAt}
+use Rattle.theory_machine.specs.Machine.{Kind, Lent, areasOf, Operand, num, tag, Buffer, freeBuffer, waiting, full, Station, freeStation, holding, done, StoreBuffer, freeStore, live, Machine, registersAre, stationsAre, storesAre, putBuffer, putStation, putStore, bufferAt, stationAt, storeAt}
 use Rattle.theory_machine.specs.GoodOrder.{goodOrder}
 use Rattle.theory_machine.specs.Issue.{Answer, refused, taken, issueNext}
 
@@ -88,7 +88,7 @@ module _ (K : Kind) (L : Lent (K .Num)) where
   perform m code = performStep m (stepOf code)
 
   abbrev pub inOrder : Machine (K .Num) → Bool
-  inOrder m = goodOrder K (length (L .words)) (length (L .operands)) (L .results) m
+  inOrder m = goodOrder K (L .words) (areasOf L) m
 
   -- ONE STEP: "Order for one step: 1, 6, 5", then the step's own
   unfoldable pub step : Machine (K .Num) → (code : ℕ) → Answer (K .Num)

@@ -13,7 +13,7 @@ use Rattle.words.specs.Check.{listCheck}
 use Rattle.seven_bit.specs.SevenBits.{Parsed, accepted, refused}
 use Rattle.list_file.specs.Reading.{listIn}
 use Rattle.theory_machine.specs.Tags.{registerCount}
-use Rattle.theory_machine.specs.Machine.{Lent, Operand, num, tag, Machine, Record}
+use Rattle.theory_machine.specs.Machine.{Lent, areasOf, Operand, num, tag, Machine, Record}
 use Rattle.theory_machine.specs.Entries.{fresh, stepsLeft}
 use Rattle.theory_machine.specs.Binary64.{binary64}
 use Rattle.theory_run.specs.Run.{ScheduleRun, run}
@@ -92,7 +92,7 @@ abbrev pub verdictFault : Verdict → Fault
 verdictFault v = cond (eqb (v .refusal) 0) Nothing (Refused (v .refusal) (v .place))
 
 abbrev pub areasFault : Lent Float → Fault
-areasFault L = verdictFault (listCheck (length (L .operands)) (L .results) (L .words))
+areasFault L = verdictFault (listCheck (areasOf L) (L .words))
 
 -- "The log has 2,048 records."
 abbrev pub logRoom : ℕ

@@ -1,18 +1,17 @@
 -- What is proved of runs: the statements stand in specs/Theorem.antt.
 use mathlib.Core.Path.{_≡_, refl, sym, subst}
-use mathlib.Core.Bool.{not}
 use mathlib.Core.List.{List, []}
 use Prim.Native.Nat.{ℕ, _≤_}
 use native.Mathlib.Omega.{arith}
 use lib.Dec.{eqb}
 use lib.ListN.{length}
 use borrow.Author.Tests.{eq-eqb, ne-eqb}
-use Rattle.theory_machine.specs.Machine.{Kind, Lent, Machine}
-use Rattle.theory_machine.specs.Steps.{inOrder}
-use Rattle.theory_machine.specs.Entries.{listRefusal, fresh}
+use Rattle.theory_machine.specs.Machine.{Kind, Lent, areasOf, Machine}
+use Rattle.theory_machine.specs.Entries.{listRefusal, refusalOfEntry, fresh}
 use Rattle.theory_machine.specs.Asked.{State, asked, takenOf, begin}
 use Rattle.theory_machine.specs.Statement.{Outcome}
 use Rattle.theory_machine.proofs.Rows.{cond-cases}
+use Rattle.theory_machine.proofs.Checks.{by-list, by-order, both-pass}
 use Rattle.theory_machine.proofs.Theorems.{orderTheorem}
 use Rattle.theory_run.specs.Run.{ScheduleRun, run}
 use Rattle.theory_run.specs.Theorem.{firstCodes, placeAfter, IsAsked, RunIsAsked, RunStopsForCause, RefusedRuns, DemandThreeOfRuns}
@@ -43,22 +42,22 @@ module _ (K : Kind) (L : Lent (K .Num)) (room : ℕ) (schedule : List ℕ) where
   pub refusedRuns : (m : Machine (K .Num)) (cells : List (K .Num)) → RefusedRuns K L room schedule m cells
   unfolding run
   refusedRuns m cells = record {
-    ofList = λ z. rw (ne-eqb (listRefusal K L) 0 z) refl;
-    ofMachine = λ z o. rw (eq-eqb (listRefusal K L) 0 z, o) refl;
+    ofList = λ z. let e = by-list K (L .words) (areasOf L) m z in rw (e, ne-eqb (listRefusal K L) 0 z) refl;
+    ofMachine = λ z o. rw (by-order K (L .words) (areasOf L) m z o) refl;
   }
 
   pub runIsAsked : RunIsAsked K L room schedule
   unfolding run
   runIsAsked m cells =
       let Is : ScheduleRun (K .Num) → Type 0 = IsAsked K L room schedule (start m cells) in
-      cond-cases Is (not (eqb (listRefusal K L) 0)) (λ _. not-begun m cells (listRefusal K L))
-      (λ _. cond-cases Is (not (inOrder K L m)) (λ _. not-begun m cells 6)
-      (λ _. begun (start m cells) _ (omega arith) (gone K L room schedule _ (start m cells) 0 0)))
+      cond-cases Is (eqb (refusalOfEntry K L m) 0)
+      (λ _. begun (start m cells) _ (omega arith) (gone K L room schedule _ (start m cells) 0 0))
+      (λ _. not-begun m cells (refusalOfEntry K L m))
 
   pub runStopsForCause : RunStopsForCause K L room schedule
   unfolding run
   runStopsForCause z m o cells =
-      rw (eq-eqb (listRefusal K L) 0 z, o) (caused K L room schedule _ (start m cells) 0 0 (omega arith) (omega arith))
+      rw (eq-eqb (refusalOfEntry K L m) 0 (both-pass K (L .words) (areasOf L) m z o)) (caused K L room schedule _ (start m cells) 0 0 (omega arith) (omega arith))
 
 -- demand 3
 pub demandThreeOfRuns : DemandThreeOfRuns

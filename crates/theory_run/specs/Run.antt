@@ -8,8 +8,8 @@ use lib.ListN.{length, drop}
 use Rattle.seven_bit.specs.SevenBits.{Parsed, accepted, refused, numberAt}
 use Rattle.theory_machine.specs.Machine.{Kind, Lent, Machine, Record}
 use Rattle.theory_machine.specs.Issue.{Answer, isTaken}
-use Rattle.theory_machine.specs.Steps.{inOrder, step}
-use Rattle.theory_machine.specs.Entries.{listRefusal}
+use Rattle.theory_machine.specs.Steps.{step}
+use Rattle.theory_machine.specs.Entries.{refusalOfEntry}
 use Rattle.theory_machine.specs.Asked.{State, after}
 
 -- "Answer: steps done, byte place of the refused code (or the length), refusal, records written"; with the machine, the cells and the records
@@ -66,9 +66,8 @@ module _ (K : Kind) (L : Lent (K .Num)) (room : ℕ) where
     -- "A run checks the list, then 6, even for an empty schedule"
     unfoldable pub run : Machine (K .Num) → (cells : List (K .Num)) → ScheduleRun (K .Num)
     run m cells =
-        cond (not (eqb (listRefusal K L) 0)) (notBegun m cells (listRefusal K L))
-        (cond (not (inOrder K L m)) (notBegun m cells 6)
-        (runFrom (length schedule) (unlogged m cells) 0 0))
+        cond (eqb (refusalOfEntry K L m) 0) (runFrom (length schedule) (unlogged m cells) 0 0)
+        (notBegun m cells (refusalOfEntry K L m))
 
 -- "later records are untouched": a lent log with these records at its front
 abbrev pub loggedOver : {A : Type 0} → (records log : List A) → List A

@@ -12,7 +12,7 @@ use Rattle.theory_machine.specs.GoodOrder.{giver, goodOrder, nothingLive, drain
 use Rattle.theory_machine.specs.Codes.{stepOf}
 use Rattle.theory_machine.specs.Steps.{perform, step}
 use Rattle.theory_machine.specs.Count.{countLeft}
-use Rattle.theory_machine.specs.Entries.{fresh, oneAtATime, stepsLeft, lowestPermitted, lowestStep}
+use Rattle.theory_machine.specs.Entries.{fresh, oneAtATime, stepsLeft, entryRefusal, lowestPermitted, lowestStep}
 use Rattle.theory_run.specs.Run.{run, runFrom}
 use Rattle.theory_report.specs.Text.{decimal, pattern}
 use Rattle.theory_report.specs.Operands.{patternAt}
@@ -21,6 +21,6 @@ use Rattle.theory_sessions.specs.Session.{seen}
 use Rattle.theory_sessions.specs.Table.{Claim}
 
 pub claim : Claim
-unfolding toBits reportText runOf run runFrom decimal pattern registerLine recordLine patternAt seen step goodOrder nothingLive drained perform stepOf decode giver slotOf countLeft fresh oneAtATime stepsLeft lowestPermitted lowestStep
+unfolding toBits reportText runOf run runFrom decimal pattern registerLine recordLine patternAt seen step goodOrder nothingLive drained perform stepOf decode giver slotOf countLeft fresh oneAtATime stepsLeft entryRefusal lowestPermitted lowestStep
     listCheck wordRefusal operationRefusal registerRefusal cellRefusal isRegister isCell numberIn numberAt bytesOf fieldAt operandAt r1At wordAt listIn wordBytes ofBits add sub mul div
 claim = refl

@@ -124,7 +124,7 @@ found (session x e) = ofSession (seen x)
 found (ran x e) = ofRun (ranSeen x)
 found (given r) = ofStep (step binary64 (r .lent) (r .machine) (r .code) .refusal)
 found (issued r) = ofIssue (step binary64 (ofWord binary64 n1·5 (r .word)) (r .machine) 0)
-found (checked operands results words n p) = let c = listCheck operands results words in ofCheck (c .refusal) (c .place)
+found (checked operands results words n p) = let c = listCheck (record { operands = operands; results = results }) words in ofCheck (c .refusal) (c .place)
 found (checkedAlone words n p) = let c = listCheckAlone words in ofCheck (c .refusal) (c .place)
 found (read file n p words) =
     let r = readAnswer file room in ofRead (r .count) (r .refusal) (r .place) (take (r .count) (readWords file room))

@@ -11,6 +11,7 @@ use lib.ListN.{length, getD, drop}
 use borrow.Author.Tests.{ltb-true, leb-true, eqb-true, eqb-false}
 use Rattle.words.specs.declared.Form.{Form}
 use Rattle.words.specs.declared.Form.the-variants.{Unknown, LD, LDR, CellArithmetic, RegisterArithmetic, STD}
+use Rattle.words.specs.declared.Areas.{Areas}
 use Rattle.words.specs.Instructions.{table, formOf, isRegister, isCell}
 use Rattle.words.specs.Check.{operationRefusal, registerRefusal, cellRefusal, operandRefusal}
 
@@ -81,14 +82,14 @@ pub form-known : (o : ℕ) → 1 ≤ o → o ≤ 11 → isKnown (formOf o) ≡ t
 form-known zero p h = absurd (not-suc-le-zero p)
 form-known (suc o) p h = known-at (drop 1 table) refl o (omega arith)
 
-pub known-operand : (operands results o x : ℕ) → operationRefusal o ≡ 0 → operandRefusal operands results (formOf o) x ≡ 0 → x < 256
-known-operand operands results o x known e =
+pub known-operand : (areas : Areas) (o x : ℕ) → operationRefusal o ≡ 0 → operandRefusal areas (formOf o) x ≡ 0 → x < 256
+known-operand areas o x known e =
     let k = known-operation o known in go (formOf o) (form-known o (k .0) (k .1)) e
   where
-    go : (f : Form) → isKnown f ≡ true → operandRefusal operands results f x ≡ 0 → x < 256
+    go : (f : Form) → isKnown f ≡ true → operandRefusal areas f x ≡ 0 → x < 256
     go Unknown k e = let z : _≡_ {A = ℕ} 0 1 = cc in absurd (omega arith)
-    go LD k e = known-cell operands x e
+    go LD k e = known-cell (areas .operands) x e
     go LDR k e = omega (arith, known-register x e)
-    go (CellArithmetic o) k e = known-cell operands x e
+    go (CellArithmetic o) k e = known-cell (areas .operands) x e
     go (RegisterArithmetic o) k e = omega (arith, known-register x e)
-    go STD k e = known-cell results x e
+    go STD k e = known-cell (areas .results) x e

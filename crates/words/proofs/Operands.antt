@@ -12,6 +12,7 @@ use lib.ListN.{length, getD, drop, List·getD-eq-default}
 use borrow.Author.Tests.{ltb-true, ltb-false, lt-ltb, le-ltb, le-leb}
 use Rattle.words.specs.declared.Form.{Form}
 use Rattle.words.specs.declared.Form.the-variants.{Unknown, LD, LDR, CellArithmetic, RegisterArithmetic, STD}
+use Rattle.words.specs.declared.Areas.{Areas}
 use Rattle.words.specs.Instructions.{table, formOf, isCell}
 use Rattle.words.specs.Operands.{heldRefusal}
 use Rattle.words.specs.Check.{operationRefusal, registerRefusal, cellRefusal, operandRefusal}
@@ -45,13 +46,13 @@ even-small r h e =
     (λ (a : r ≢ 0). inr (⊎-elim inl (λ (b : r ≢ 2). inr (⊎-elim inl (λ (d : r ≢ 4). inr (omega arith)) (eqb-cases r 4))) (eqb-cases r 2)))
     (eqb-cases r 0)
 
-by-kind : (operands results x : ℕ) (f : Form) → isKnown f ≡ true → heldRefusal x (takesRegister f) (cond (isStore f) results operands) ≡ operandRefusal operands results f x
-by-kind operands results x Unknown e = absurd (true≢false (sym e))
-by-kind operands results x LD e = refl
-by-kind operands results x LDR e = refl
-by-kind operands results x (CellArithmetic o) e = refl
-by-kind operands results x (RegisterArithmetic o) e = refl
-by-kind operands results x STD e = refl
+by-kind : (areas : Areas) (x : ℕ) (f : Form) → isKnown f ≡ true → heldRefusal x (takesRegister f) (cond (isStore f) (areas .results) (areas .operands)) ≡ operandRefusal areas f x
+by-kind areas x Unknown e = absurd (true≢false (sym e))
+by-kind areas x LD e = refl
+by-kind areas x LDR e = refl
+by-kind areas x (CellArithmetic o) e = refl
+by-kind areas x (RegisterArithmetic o) e = refl
+by-kind areas x STD e = refl
 
 module _ (x area : ℕ) where
   pub above-limit : (r : Bool) → cond r 8 area ≤ x → cond r 3 4 ≡ heldRefusal x r area
@@ -142,12 +143,12 @@ kind-of : (o : ℕ) → 1 ≤ o → o ≤ 11 → KindOf o (formOf o)
 kind-of zero p h = absurd (not-suc-le-zero p)
 kind-of (suc o) p h = let z : 1 + o ≡ suc o = omega arith in rw (← z) (kinds-at (drop 1 table) 1 refl o (omega arith))
 
-pub by-its-operation : (operands results x o : ℕ) → operationRefusal o ≡ 0
-    → heldRefusal x (eqb (o % 2) 0) (cond (eqb o 11) results operands) ≡ operandRefusal operands results (formOf o) x
-by-its-operation operands results x o e =
+pub by-its-operation : (areas : Areas) (x o : ℕ) → operationRefusal o ≡ 0
+    → heldRefusal x (eqb (o % 2) 0) (cond (eqb o 11) (areas .results) (areas .operands)) ≡ operandRefusal areas (formOf o) x
+by-its-operation areas x o e =
     let k = known-operation o e in
     let t = kind-of o (k .0) (k .1) in
-    (λ i. heldRefusal x (sym (t .0) i) (cond (sym (t .1) i) results operands)) ∙ by-kind operands results x (formOf o) (form-known o (k .0) (k .1))
+    (λ i. heldRefusal x (sym (t .0) i) (cond (sym (t .1) i) (areas .results) (areas .operands))) ∙ by-kind areas x (formOf o) (form-known o (k .0) (k .1))
 
 -- an operation that is refused asks for nothing
 formless : (o : ℕ) → (operationRefusal o ≡ 0 → ⊥) → formOf o ≡ Unknown
@@ -159,5 +160,5 @@ formless (suc o) n = go (ltb 11 (suc o)) refl
     go true e = List·getD-eq-default table Unknown (ltb-true 11 (suc o) e)
     go false e = absurd (n (rw (le-leb 1 (suc o) (omega arith), le-leb (suc o) 11 (ltb-false 11 (suc o) e))))
 
-pub by-none : (operands results x o : ℕ) → (operationRefusal o ≡ 0 → ⊥) → 0 ≡ operandRefusal operands results (formOf o) x
-by-none operands results x o n = rw (formless o n)
+pub by-none : (areas : Areas) (x o : ℕ) → (operationRefusal o ≡ 0 → ⊥) → 0 ≡ operandRefusal areas (formOf o) x
+by-none areas x o n = rw (formless o n)

@@ -39,6 +39,10 @@ table =
     ∷ RegisterArithmetic Divide
     ∷ STD ∷ []
 
+-- the last operation's number
+abbrev pub lastOperation : ℕ
+lastOperation = 11
+
 abbrev pub formOf : ℕ → Form
 formOf operation = getD table operation Unknown
 

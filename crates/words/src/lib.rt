@@ -13,11 +13,25 @@ pub const LIST_LIMIT: usize = 4096;
 // 01: "Cells are 0 to 255."
 pub const CELL_LIMIT: usize = 256;
 
+// The lengths of the two areas, where nothing else of them is wanted.
+pub struct Areas {
+    pub operands: usize,
+    pub results: usize,
+}
+
+// Without areas only the cell limit speaks.
+pub const NO_AREAS: Areas = Areas {
+    operands: CELL_LIMIT,
+    results: CELL_LIMIT,
+};
+
 // Below it the even numbers are the registers.
 const REGISTER_LIMIT: usize = 8;
 
-// STD.
+// STD, and the last operation of all.
 const STORE: u32 = 11;
+
+const LAST_OPERATION: u32 = 11;
 
 // What a word asks for, by its operation's number.
 pub enum Form {
@@ -68,7 +82,7 @@ pub fn form_of(operation: u32) -> Form
         8 => Form::RegisterArithmetic(Operation::Multiply),
         9 => Form::CellArithmetic(Operation::Divide),
         10 => Form::RegisterArithmetic(Operation::Divide),
-        11 => Form::STD,
+        STORE => Form::STD,
         _ => Form::Unknown,
     }
 }
@@ -79,7 +93,7 @@ pub fn operation_refusal(operation: u32) -> u32
     if operation < 1 {
         return refusal::OPERATION;
     }
-    if 11 < operation {
+    if LAST_OPERATION < operation {
         return refusal::OPERATION;
     }
     refusal::ACCEPTED
@@ -124,21 +138,21 @@ fn held_refusal(operand: u32, register: bool, area: usize) -> u32
     refusal::ACCEPTED
 }
 
-// The operand's own refusal, against areas of so many operand and result cells. An unknown operation has none; of the known ones those that take
+// The operand's own refusal, against the areas. An unknown operation has none; of the known ones those that take
 // a register are the even ones.
-pub fn operand_refusal(operation: u32, operand: u32, operands: usize, results: usize) -> u32
-    ensures { λ r. ⌜ r ≡ operandRefusal operands results (formOf operation) operand ⌝ }
+pub fn operand_refusal(operation: u32, operand: u32, areas: Areas) -> u32
+    ensures { λ r. ⌜ r ≡ operandRefusal areas (formOf operation) operand ⌝ }
 {
     if operation_refusal(operation) != 0 {
         return refusal::ACCEPTED;
     }
-    let area = chosen(operation == STORE, results, operands);
+    let area = chosen(operation == STORE, areas.results, areas.operands);
     held_refusal(operand, operation % 2 == 0, area)
 }
 
 // Inside a word 2, then R1's 3, then the operand's 3 or 4.
-pub fn word_refusal(word: u32, operands: usize, results: usize) -> u32
-    ensures { λ r. ⌜ r ≡ wordRefusal operands results word ⌝ }
+pub fn word_refusal(word: u32, areas: Areas) -> u32
+    ensures { λ r. ⌜ r ≡ wordRefusal areas word ⌝ }
 {
     let operation = operation_of(word);
     let unknown = operation_refusal(operation);
@@ -149,12 +163,12 @@ pub fn word_refusal(word: u32, operands: usize, results: usize) -> u32
     if wrong != 0 {
         return wrong;
     }
-    operand_refusal(operation, operand_of(word), operands, results)
+    operand_refusal(operation, operand_of(word), areas)
 }
 
-// The list against areas of so many operand and result cells: 1 at place 4,096, else the first bad word with its place, else 0 at the length.
-pub fn check_list_against(words: &[u32], operands: usize, results: usize) -> Verdict
-    ensures { λ r. ⌜ r ≡ listCheck operands results (now (words .entry)) ⌝ }
+// The list against its areas: 1 at place 4,096, else the first bad word with its place, else 0 at the length.
+pub fn check_list_against(words: &[u32], areas: Areas) -> Verdict
+    ensures { λ r. ⌜ r ≡ listCheck areas (now (words .entry)) ⌝ }
 {
     if LIST_LIMIT < words.len() {
         return Verdict {
@@ -164,7 +178,7 @@ pub fn check_list_against(words: &[u32], operands: usize, results: usize) -> Ver
     }
     let mut place = 0;
     while place < words.len() {
-        let bad = word_refusal(words[place], operands, results);
+        let bad = word_refusal(words[place], areas);
         if bad != 0 {
             return Verdict {
                 refusal: bad,
@@ -183,5 +197,5 @@ pub fn check_list_against(words: &[u32], operands: usize, results: usize) -> Ver
 pub fn check_list(words: &[u32]) -> Verdict
     ensures { λ r. ⌜ r ≡ listCheckAlone (now (words .entry)) ⌝ }
 {
-    check_list_against(words, CELL_LIMIT, CELL_LIMIT)
+    check_list_against(words, NO_AREAS)
 }

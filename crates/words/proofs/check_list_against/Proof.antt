@@ -10,11 +10,11 @@ use Rattle.words.proofs.check_list_against.Statement.{statement}
 use Rattle.words.proofs.check_list_against.Tie as tie
 
 abbrev Inv-loop : tie.InvT-loop
-Inv-loop words operands results place₀ place =
-    (place ≤ length words) × (firstBad operands results 0 words ≡ firstBad operands results place (drop place words))
+Inv-loop words areas place₀ place =
+    (place ≤ length words) × (firstBad areas 0 words ≡ firstBad areas place (drop place words))
 
 abbrev μ-loop : tie.MeasureT-loop
-μ-loop words operands results place₀ place = length words - place
+μ-loop words areas place₀ place = length words - place
 
 returns : tie.Need-returns Inv-loop μ-loop
 unfolding listCheck
@@ -29,21 +29,21 @@ returns-2 c =
     let w = c .before in
     let l = w .before .before .before in
     rw (le-ltb _ _ (l .before .if1 .left), w .word-refusal .ensures)
-    (sym (l .loop .inv .1 ∙ bad-here _ _ _ _ (w .before .before .loop-test .taken) (rw (w .word-refusal .ensures) at (c .if2 .taken))))
+    (sym (l .loop .inv .1 ∙ bad-here _ _ _ (w .before .before .loop-test .taken) (rw (w .word-refusal .ensures) at (c .if2 .taken))))
 
 loop-again : tie.Need-loop-again Inv-loop μ-loop
 loop-again c =
     let w = c .before in
     let l = w .before .before .before in (
       omega arith,
-      l .loop .inv .1 ∙ bad-later _ _ _ _ (w .before .before .loop-test .taken) (rw (w .word-refusal .ensures) at (c .if2 .left)),
+      l .loop .inv .1 ∙ bad-later _ _ _ (w .before .before .loop-test .taken) (rw (w .word-refusal .ensures) at (c .if2 .left)),
     )
 
 returns-3 : tie.Need-returns-3 Inv-loop μ-loop
 unfolding listCheck
 returns-3 c =
     let l = c .before in
-    rw (le-ltb _ _ (l .before .if1 .left)) (sym (l .loop .inv .1 ∙ bad-none _ _ _ _ (c .loop-test .left)))
+    rw (le-ltb _ _ (l .before .if1 .left)) (sym (l .loop .inv .1 ∙ bad-none _ _ _ (c .loop-test .left)))
 
 pub check-list-against-spec : {M : Type 1} → statement M
 check-list-against-spec =

@@ -10,14 +10,14 @@ use Rattle.words.proofs.operand_refusal.Tie as tie
 returns : tie.Need-returns
 returns c =
     let a = c .before .before .args in
-    by-none (a .operands) (a .results) (a .operand) (a .operation) (λ e. c .if1 .taken (c .before .operation-refusal .ensures ∙ e))
+    by-none (a .areas) (a .operand) (a .operation) (λ e. c .if1 .taken (c .before .operation-refusal .ensures ∙ e))
 
 returns-2 : tie.Need-returns-2
 returns-2 c =
     let k = c .before .before in
     let a = k .before .before .args in
     c .held-refusal .ensures ∙ ap (heldRefusal (a .operand) (eqb (a .operation % 2) 0)) (c .before .chosen .ensures)
-    ∙ by-its-operation (a .operands) (a .results) (a .operand) (a .operation) (sym (k .before .operation-refusal .ensures) ∙ k .if1 .left)
+    ∙ by-its-operation (a .areas) (a .operand) (a .operation) (sym (k .before .operation-refusal .ensures) ∙ k .if1 .left)
 
 pub operand-refusal-spec : {M : Type 1} → statement M
 operand-refusal-spec =

@@ -18,12 +18,12 @@ by-register c = c .register-refusal .ensures ∙ ap registerRefusal (c .before .
 
 by-operand : (c : tie.After-operand-refusal)
     → let a = c .before .before .before .before .before .before .before .before .args in
-    c .operand-refusal .result ≡ operandRefusal (a .operands) (a .results) (formOf (operationField (a .word))) (operandField (a .word))
+    c .operand-refusal .result ≡ operandRefusal (a .areas) (formOf (operationField (a .word))) (operandField (a .word))
 by-operand c =
     let t = c .before .before .before .before .before .before .before in
     let a = t .before .args in
     c .operand-refusal .ensures
-    ∙ (λ i. operandRefusal (a .operands) (a .results) (formOf (t .operation-of .ensures i)) (c .before .operand-of .ensures i))
+    ∙ (λ i. operandRefusal (a .areas) (formOf (t .operation-of .ensures i)) (c .before .operand-of .ensures i))
 
 returns : tie.Need-returns
 unfolding wordRefusal

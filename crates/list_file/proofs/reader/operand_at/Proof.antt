@@ -20,7 +20,7 @@ word-of-requires c κs =
     let a = q .before .before .before .before .before .before in
     let o = sym (q .operand-refusal .ensures) ∙ c .if1 .left in
     let k = known-operation _ (a .pre .0) in
-    (omega (arith, k .1), omega (arith, known-register _ (a .pre .1)), omega (arith, known-operand _ _ _ _ (a .pre .0) o))
+    (omega (arith, k .1), omega (arith, known-register _ (a .pre .1)), omega (arith, known-operand _ _ _ (a .pre .0) o))
 
 returns-2 : tie.Need-returns-2
 unfolding operandAt

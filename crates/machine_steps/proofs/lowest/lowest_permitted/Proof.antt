@@ -14,29 +14,28 @@ use Rattle.theory_machine.specs.Binary64.{binary64}
 use Rattle.theory_machine.specs.Steps.{perform}
 use Rattle.theory_machine.specs.Entries.{lowestPermitted}
 use Rattle.machine_parts.specs.declared.parts.Machine.{Machine}
-use Rattle.machine_parts.specs.View.{view}
+use Rattle.machine_parts.specs.View.{view, lentWith}
 use Rattle.machine_take.specs.Taking.{Taken, viewTaken, takeFrom}
 use Rattle.machine_take.specs.declared.taking.Taken as declared
 use Rattle.machine_steps.proofs.Stepping.{one-step}
-use Rattle.machine_take.specs.Inside.{lentTo}
 use Rattle.machine_steps.proofs.First.{Searching, searching-none, searching-more, searching-found, searching-all}
 use Rattle.machine_steps.proofs.lowest.lowest_permitted.Statement.{statement}
 use Rattle.machine_steps.proofs.lowest.lowest_permitted.Tie as tie
 
 -- whether a code is permitted
 abbrev permits : Machine → List ℕ → List Float → (results code : ℕ) → Bool
-permits m words operands results code = isTaken (perform binary64 (lentTo words operands results) (view m) code)
+permits m words operands results code = isTaken (perform binary64 (lentWith words operands results) (view m) code)
 
 lowest-is : (m : Machine) (words : List ℕ) (operands : List Float) (results : ℕ)
-    → lowestPermitted binary64 (lentTo words operands results) (view m) ≡ first (permits m words operands results) 0 codeLimit
+    → lowestPermitted binary64 (lentWith words operands results) (view m) ≡ first (permits m words operands results) 0 codeLimit
 unfolding lowestPermitted
 lowest-is m words operands results = refl
 
 -- the refusal of its one byte says it
 permitted : (t : declared.Taken) (m : Machine) (words : List ℕ) (operands : List Float) (results code : ℕ) → code < 128
-    → viewTaken t ≡ takeFrom (lentTo words operands results) true (code ∷ []) 1 (view m) 0 0 → eqb (t .refusal) 0 ≡ permits m words operands results code
+    → viewTaken t ≡ takeFrom (lentWith words operands results) true (code ∷ []) 1 (view m) 0 0 → eqb (t .refusal) 0 ≡ permits m words operands results code
 permitted t m words operands results code h e =
-    ap (λ (n : ℕ). eqb n 0) (ap (λ (t : Taken). t .refusal) e ∙ one-step (lentTo words operands results) (view m) code h .refusal)
+    ap (λ (n : ℕ). eqb n 0) (ap (λ (t : Taken). t .refusal) e ∙ one-step (lentWith words operands results) (view m) code h .refusal)
 
 abbrev Inv-loop : tie.InvT-loop
 Inv-loop m words operands results code₀ code = Searching (permits m words operands results) codeLimit code

@@ -1,8 +1,8 @@
 use mathlib.Core.Path.{sym, ap, _∙_}
 use denote.Ref.{now}
 use Rattle.words.specs.Instructions.{formOf}
+use Rattle.machine_parts.specs.View.{lentWith}
 use Rattle.theory_machine.specs.Instruction.{indexOf}
-use Rattle.machine_take.specs.Inside.{lentTo}
 use Rattle.machine_take.proofs.Issued.{Reading, well-formed, issue-goes, issue-end, issue-bad}
 use borrow.Author.Needs.{needs}
 use Rattle.machine_take.proofs.issue.issue.Statement.{statement}
@@ -10,7 +10,7 @@ use Rattle.machine_take.proofs.issue.issue.Tie as tie
 
 reading : (c : tie.After-operand-of)
     → let a = c .before .before .before .before .before .before .before .before .before .before .before .args in
-    Reading (lentTo (now (a .words)) (now (a .operands)) (a .results)) (a .place) (c .before .before .before .index-of .result) (c .operand-of .result) (c .before .form-of .result)
+    Reading (lentWith (now (a .words)) (now (a .operands)) (a .results)) (a .place) (c .before .before .before .index-of .result) (c .operand-of .result) (c .before .form-of .result)
 reading c = record {
   inList = c .before .before .before .before .before .before .before .before .if1 .left;
   accepted = sym (c .before .before .before .before .before .before .word-refusal .ensures) ∙ c .before .before .before .before .before .if2 .left;

@@ -1,14 +1,17 @@
 use mathlib.Core.Path.{_≡_}
+use mathlib.Core.List.{[]}
 use native.Mathlib.Omega.{arith}
 use lib.ListN.{length}
 use lib.Ieee.{nan}
 use borrow.Author.Needs.{needs}
 use Rattle.words.specs.declared.Form.{Form}
 use Rattle.words.specs.declared.Form.the-variants.{Unknown, LD, LDR, STD}
+use Rattle.theory_machine.specs.Machine.{areasOf}
 use Rattle.theory_machine.specs.Instruction.{indexOf}
 use Rattle.theory_machine.specs.Binary64.{binary64}
 use Rattle.theory_machine.proofs.Words.{cell-in-area}
 use denote.Ref.{now}
+use Rattle.machine_parts.specs.View.{lent}
 use Rattle.machine_parts.proofs.Seen.{any-default}
 use Rattle.one_at_a_time.proofs.Decoded.{Decoded, decoded}
 use Rattle.one_at_a_time.proofs.one_at_a_time.execute.Statement.{statement}
@@ -17,10 +20,10 @@ use Rattle.one_at_a_time.proofs.one_at_a_time.execute.Tie as tie
 -- the word, decoded, in the arm of a form
 read : (c : tie.After-operand-of) (form : Form) → c .before .before .before .form-of .result ≡ form
     → let a = c .before .before .before .before .before .before .before .args in
-    Decoded (length (now (a .operands))) (length (now (a .results))) (a .word) form (c .before .before .r1-of .result) (c .operand-of .result)
+    Decoded (areasOf (lent [] (now (a .operands)) (now (a .results)))) (a .word) form (c .before .before .r1-of .result) (c .operand-of .result)
 read c form e =
     let f = c .before .before .before in
-    decoded _ _ _ form (f .before .before .before .before .pre .0) (f .before .operation-of .ensures) (f .form-of .ensures) e
+    decoded _ _ form (f .before .before .before .before .pre .0) (f .before .operation-of .ensures) (f .form-of .ensures) e
     (c .before .before .r1-of .ensures) (c .operand-of .ensures)
 
 enum-told : tie.Need-enum-told

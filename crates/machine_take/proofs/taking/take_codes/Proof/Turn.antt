@@ -5,9 +5,8 @@ use Prim.Native.Nat.{_+_, _-_, _≤_, _<_}
 use native.Mathlib.Omega.{arith}
 use denote.Ref.{now}
 use lib.ListN.{length, length-map}
-use Rattle.machine_parts.specs.View.{view}
+use Rattle.machine_parts.specs.View.{view, lentWith}
 use Rattle.machine_parts.specs.declared.parts.Released.the-variants.{Nothing}
-use Rattle.machine_take.specs.Inside.{lentTo}
 use Rattle.machine_take.specs.Taking.{takeFrom}
 use Rattle.seven_bit.specs.SevenBits.{accepted, numberAt}
 use Rattle.seven_bit.specs.Told.{told}
@@ -44,7 +43,7 @@ abbrev pub μ-loop4 : tie.MeasureT-loop4
 
 abbrev pub Inv-loop : tie.InvT-loop
 Inv-loop words operands results schedule from room n₀ steps₀ place₀ refusal₀ released₀ n steps place refusal released =
-    Here (lentTo words operands results) room schedule (takeFrom (lentTo words operands results) room schedule (length schedule) (view n₀) steps₀ place₀) (view n) steps place
+    Here (lentWith words operands results) room schedule (takeFrom (lentWith words operands results) room schedule (length schedule) (view n₀) steps₀ place₀) (view n) steps place
     × (refusal ≡ 0)
     × (released ≡ Nothing)
 
@@ -56,7 +55,7 @@ pub known : (c : tie.At-match2-came Inv-loop2 μ-loop2 Inv-loop3 μ-loop3 Inv-lo
     → let coded = c .before .before .before in
     let top = coded .before .before .before .before in
     let a = top .before .before .before .before .args in
-    Known (lentTo (now (a .words)) (now (a .operands)) (a .results)) (top .loop .n) (coded .code .given .0 .0) (c .match2 .change)
+    Known (lentWith (now (a .words)) (now (a .operands)) (a .results)) (top .loop .n) (coded .code .given .0 .0) (c .match2 .change)
 known c =
     let read = c .before .step-of .ensures in
     ⊎-elim (λ w. no-step read (w .2) (w .1 .given .1) refl)
@@ -89,7 +88,7 @@ pub on : (c : tie.At-match2-came Inv-loop2 μ-loop2 Inv-loop3 μ-loop3 Inv-loop4
     → let coded = c .before .before .before in
     let top = coded .before .before .before .before in
     let a = top .before .before .before .before .args in
-    Steps (lentTo (now (a .words)) (now (a .operands)) (a .results)) (top .loop .n) n (coded .code .given .0 .0)
+    Steps (lentWith (now (a .words)) (now (a .operands)) (a .results)) (top .loop .n) n (coded .code .given .0 .0)
     → Inv-loop (now (a .words)) (now (a .operands)) (a .results) (now (a .schedule)) (a .from) (a .room)
     (a .m) 0 (a .from) 0 Nothing
     n (top .loop .steps + 1) (coded .code .given .0 .1 .0) (top .loop .refusal) (top .loop .released)
@@ -109,7 +108,7 @@ pub granted-on : (c : tie.After-loop4 Inv-loop2 μ-loop2 Inv-loop3 μ-loop3 Inv-
     → let coded = c .before .before .before .before .before .before .before .before .before .before .before .before .before in
     let top = coded .before .before .before .before in
     let a = top .before .before .before .before .args in
-    Steps (lentTo (now (a .words)) (now (a .operands)) (a .results)) (top .loop .n) (c .before .loop4 .n) (coded .code .given .0 .0)
+    Steps (lentWith (now (a .words)) (now (a .operands)) (a .results)) (top .loop .n) (c .before .loop4 .n) (coded .code .given .0 .0)
 granted-on c =
     let j = c .before .before .before .before .before .before in
     let S = freed-rows j in
