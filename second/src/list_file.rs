@@ -31,11 +31,11 @@ pub fn read(bytes: &[u8], words: &mut [u32]) -> Result<usize, Fault> {
 fn read_word(bytes: &[u8], place: usize) -> Result<(u32, usize), Fault> {
     let (number, operation, r1_place) = read_checked(bytes, place, Operation::of_number)?;
     let (r1, _, operand_place) = read_checked(bytes, r1_place, register_index)?;
-    let (operand, _, next) = read_checked(bytes, operand_place, |operand| {
+    let (operand, _, after) = read_checked(bytes, operand_place, |operand| {
         operation.operand(operand, CellLimits::NO_AREAS)
     })?;
     let fields = Fields { operation: number, r1, operand };
-    Ok((fields.word(), next))
+    Ok((fields.word(), after))
 }
 
 /// One number of a word, what its check makes of it, and the place after it.
@@ -45,9 +45,9 @@ fn read_checked<T>(
     check: impl Fn(u32) -> Result<T, Refusal>,
 ) -> Result<(u32, T, usize), Fault> {
     let read = || {
-        let (number, next) = seven_bit::read(bytes, place)?;
+        let (number, after) = seven_bit::read(bytes, place)?;
         let number = u32::from(number);
-        Ok((number, check(number)?, next))
+        Ok((number, check(number)?, after))
     };
     read().map_err(|refusal: Refusal| refusal.at(place))
 }

@@ -1,5 +1,7 @@
 //! Refusal numbers (01, "Refusal numbers").
 
+use crate::seven_bit;
+use crate::words::{CELL_LIMIT, LAST_OPERATION, LIST_LIMIT};
 use std::fmt;
 
 #[derive(Clone, Copy, Debug, PartialEq, Eq)]
@@ -28,24 +30,40 @@ impl Refusal {
     }
 
     /// When it is given, in 01's words.
-    pub fn reason(self) -> &'static str {
+    pub fn reason(self) -> String {
         match self {
-            Refusal::ListTooLong => "list, or a file's count, above 4,096",
-            Refusal::BadOperation => "operation not 1 to 11",
-            Refusal::BadRegister => "register not 0, 2, 4 or 6",
-            Refusal::BadCell => "cell above 255, or not below the length of its area",
-            Refusal::UnknownStep => "step code unknown",
-            Refusal::NotInGoodOrder => "machine not in good order",
-            Refusal::NotPermitted => "known step not permitted now",
-            Refusal::FileEnds => "file ends inside a number or before one that is due",
-            Refusal::BadNumber => "number not in shortest form, or above 65,535",
-            Refusal::BytesLeft => "bytes left after the last word",
-            Refusal::TooSmall => "the lent buffer, log or file limit is too small",
+            Refusal::ListTooLong => {
+                format!("list, or a file's count, above {}", grouped(LIST_LIMIT))
+            }
+            Refusal::BadOperation => format!("operation not 1 to {LAST_OPERATION}"),
+            Refusal::BadRegister => "register not 0, 2, 4 or 6".into(),
+            Refusal::BadCell => {
+                let last = grouped(CELL_LIMIT - 1);
+                format!("cell above {last}, or not below the length of its area")
+            }
+            Refusal::UnknownStep => "step code unknown".into(),
+            Refusal::NotInGoodOrder => "machine not in good order".into(),
+            Refusal::NotPermitted => "known step not permitted now".into(),
+            Refusal::FileEnds => "file ends inside a number or before one that is due".into(),
+            Refusal::BadNumber => {
+                let greatest = grouped(seven_bit::GREATEST.into());
+                format!("number not in shortest form, or above {greatest}")
+            }
+            Refusal::BytesLeft => "bytes left after the last word".into(),
+            Refusal::TooSmall => "the lent buffer, log or file limit is too small".into(),
         }
     }
 
     pub fn at(self, place: usize) -> Fault {
         Fault { refusal: self, place }
+    }
+}
+
+/// A number as 01 writes it: 4,096.
+fn grouped(number: usize) -> String {
+    match number {
+        0..=999 => number.to_string(),
+        _ => format!("{},{:03}", grouped(number / 1000), number % 1000),
     }
 }
 

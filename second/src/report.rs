@@ -5,7 +5,7 @@ use crate::machine::{Lent, Machine, Operand, Record, REGISTERS};
 use crate::numbers::Number;
 use crate::refusal::{Fault, Refusal};
 use crate::schedule::{self, RunAnswer};
-use crate::words::{check_list, CELL_LIMIT};
+use crate::words::{check_list, register_number, CELL_LIMIT};
 use std::fmt::Write;
 use std::fs::File;
 use std::io::Read;
@@ -41,10 +41,10 @@ fn session_text(
     schedule: Option<&[u8]>,
 ) -> Result<String, String> {
     let list = within_limit(list).and_then(|bytes| list_file::read_words(bytes).map_err(number_at));
-    let list = list.map_err(|fault| format!("list {fault}"))?;
+    let list = list.map_err(|stop| format!("list {stop}"))?;
     let operands = within_limit(operands).and_then(|bytes| read_operands(bytes).map_err(number_at));
-    let operands = operands.map_err(|fault| format!("operands {fault}"))?;
-    let schedule = within_limit(schedule).map_err(|fault| format!("schedule {fault}"))?;
+    let operands = operands.map_err(|stop| format!("operands {stop}"))?;
+    let schedule = within_limit(schedule).map_err(|stop| format!("schedule {stop}"))?;
     let mut lent =
         Lent { list: &list, operands: &operands, results: &mut [Number::ZERO; CELL_LIMIT] };
     check_list(&list, lent.limits()).map_err(|fault| format!("areas {}", number_at(fault)))?;
@@ -63,7 +63,7 @@ fn within_limit(file: Option<&[u8]>) -> Result<&[u8], String> {
     Ok(bytes)
 }
 
-/// Big-endian patterns of 8 bytes, at most 256.
+/// Big-endian patterns, at most one a cell.
 pub fn read_operands(bytes: &[u8]) -> Result<Vec<Number>, Fault> {
     if bytes.len() > OPERANDS_LIMIT {
         return Err(Refusal::BadCell.at(OPERANDS_LIMIT));
@@ -73,8 +73,8 @@ pub fn read_operands(bytes: &[u8]) -> Result<Vec<Number>, Fault> {
     if cut > 0 {
         return Err(Refusal::FileEnds.at(bytes.len() - cut));
     }
-    let join = |number: u64, &byte: &u8| number << 8 | u64::from(byte);
-    Ok(patterns.map(|pattern| Number::from_pattern(pattern.iter().fold(0, join))).collect())
+    let join = |pattern: u64, &byte: &u8| pattern << u8::BITS | u64::from(byte);
+    Ok(patterns.map(|bytes| Number::from_pattern(bytes.iter().fold(0, join))).collect())
 }
 
 fn run_text(lent: &mut Lent, schedule: &[u8]) -> String {
@@ -92,9 +92,10 @@ fn lines(answer: &RunAnswer, left: usize, registers: &[Operand], records: &[Reco
         format!("steps {}\nrefusal {refusal} at {}\nleft {left}\n", answer.steps, answer.place);
     // Writing to a String cannot fail.
     for (index, register) in registers.iter().enumerate() {
+        let name = register_number(index);
         let _ = match register {
-            Operand::Number(number) => writeln!(text, "F{} {number}", 2 * index),
-            Operand::Waits(tag) => writeln!(text, "F{} tag {}", 2 * index, tag.0),
+            Operand::Number(number) => writeln!(text, "F{name} {number}"),
+            Operand::Waits(tag) => writeln!(text, "F{name} tag {}", tag.0),
         };
     }
     let _ = writeln!(text, "log {}", records.len());

@@ -40,7 +40,7 @@ fn take_next(
     log: &mut [Record],
     answer: &mut RunAnswer,
 ) -> Result<(), Refusal> {
-    let (code, next_place) = seven_bit::read(schedule, answer.place)?;
+    let (code, after) = seven_bit::read(schedule, answer.place)?;
     let step = Step::of_code(u32::from(code)).ok_or(Refusal::UnknownStep)?;
     if let Step::Release(index) = step {
         // Only a permitted release can find the log full, and a full log must stop the release.
@@ -49,6 +49,6 @@ fn take_next(
         answer.records += 1;
     }
     machine.take(lent, step)?;
-    answer.place = next_place;
+    answer.place = after;
     Ok(())
 }

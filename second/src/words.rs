@@ -1,10 +1,19 @@
 //! Instruction words: fields, the table of operations, the refusals of a word and the
 //! list check (01, "Instructions" and "Refusal numbers").
 
+use crate::machine::REGISTERS;
 use crate::refusal::{Fault, Refusal};
 
 pub const LIST_LIMIT: usize = 4096;
 pub const CELL_LIMIT: usize = 256;
+/// Registers are the even numbers below this.
+pub const REGISTER_LIMIT: usize = 2 * REGISTERS;
+
+/// R1 begins at the first of these bits, the operation at the second; the operand is below.
+const R1_BIT: u32 = 12;
+const OPERATION_BIT: u32 = 16;
+pub const GREATEST_R1: u32 = (1 << (OPERATION_BIT - R1_BIT)) - 1;
+pub const GREATEST_OPERAND: u32 = (1 << R1_BIT) - 1;
 
 /// The three fields of a word, not yet checked.
 #[derive(Clone, Copy, Debug, PartialEq, Eq)]
@@ -16,11 +25,15 @@ pub struct Fields {
 
 impl Fields {
     pub fn of(word: u32) -> Fields {
-        Fields { operation: word >> 16, r1: (word >> 12) & 0xF, operand: word & 0xFFF }
+        Fields {
+            operation: word >> OPERATION_BIT,
+            r1: (word >> R1_BIT) & GREATEST_R1,
+            operand: word & GREATEST_OPERAND,
+        }
     }
 
     pub fn word(self) -> u32 {
-        (self.operation << 16) | (self.r1 << 12) | self.operand
+        (self.operation << OPERATION_BIT) | (self.r1 << R1_BIT) | self.operand
     }
 }
 
@@ -30,6 +43,12 @@ pub enum Arithmetic {
     Subtract,
     Multiply,
     Divide,
+}
+
+impl Arithmetic {
+    /// Each stands at its own number, as a machine's words and sessions give it.
+    pub const ALL: [Arithmetic; 4] =
+        [Arithmetic::Add, Arithmetic::Subtract, Arithmetic::Multiply, Arithmetic::Divide];
 }
 
 #[derive(Clone, Copy, Debug, PartialEq, Eq)]
@@ -58,7 +77,7 @@ pub enum Form {
 }
 
 /// The table of 01; operation number n stands at index n - 1, as in `Operation`.
-pub const OPERATIONS: [(&str, Operation, Form); 11] = [
+pub const OPERATIONS: &[(&str, Operation, Form)] = &[
     ("LD", Operation::Ld, Form::Load),
     ("LDR", Operation::Ldr, Form::LoadRegister),
     ("AD", Operation::Ad, Form::CellArithmetic(Arithmetic::Add)),
@@ -71,6 +90,7 @@ pub const OPERATIONS: [(&str, Operation, Form); 11] = [
     ("DDR", Operation::Ddr, Form::RegisterArithmetic(Arithmetic::Divide)),
     ("STD", Operation::Std, Form::Store),
 ];
+pub const LAST_OPERATION: u32 = OPERATIONS.len() as u32;
 
 /// Cells must be below these. Where no areas are lent only the cell limit speaks.
 #[derive(Clone, Copy, Debug, PartialEq, Eq)]
@@ -94,6 +114,10 @@ impl Operation {
         Ok(*operation)
     }
 
+    pub fn number(self) -> u32 {
+        self as u32 + 1
+    }
+
     pub fn form(self) -> Form {
         OPERATIONS[self as usize].2
     }
@@ -113,18 +137,22 @@ impl Operation {
         if odd_register | (operand >= limit) {
             return Err(if register { Refusal::BadRegister } else { Refusal::BadCell });
         }
+        // Half of a register's number is its index.
         Ok(operand >> u32::from(register))
     }
 }
 
-const REGISTER_LIMIT: usize = 8;
-
 /// Registers 0, 2, 4 and 6 stand at indices 0 to 3.
 pub fn register_index(register: u32) -> Result<usize, Refusal> {
-    match register {
-        0 | 2 | 4 | 6 => Ok(register as usize / 2),
-        _ => Err(Refusal::BadRegister),
+    let register = register as usize;
+    if register % 2 == 1 || register >= REGISTER_LIMIT {
+        return Err(Refusal::BadRegister);
     }
+    Ok(register / 2)
+}
+
+pub fn register_number(index: usize) -> u32 {
+    2 * index as u32
 }
 
 /// A word that passed its check: `r1` is a register's index, `operand` a register's index or a

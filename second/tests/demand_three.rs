@@ -1,6 +1,6 @@
 //! The check of demand 3 passes the machine and finds each of the faults that 01 has seen.
 
-use second::compare::any_order::{fault, TakeStep};
+use second::compare::any_order::{failure, TakeStep};
 use second::machine::{Lent, Machine, Operand, Step, StoreBuffer};
 use second::numbers::Number;
 use second::random::Prng;
@@ -10,7 +10,7 @@ type Answer = Result<(), Refusal>;
 
 fn found(take: TakeStep) -> Option<String> {
     let mut seeds = Prng::new(1);
-    (0..200).find_map(|_| fault(&mut Prng::new(seeds.number()), take))
+    (0..200).find_map(|_| failure(&mut Prng::new(seeds.number()), take))
 }
 
 fn assert_found(take: TakeStep, reason: &str) {

@@ -1,7 +1,7 @@
 //! Random calls of the entries: what they reach, and that a library with a fault is found out.
 
 use second::compare::entries::difference;
-use second::entries::machine_words::{machine_of, WORDS};
+use second::entries::machine_words::{machine_of, MACHINE_WORDS};
 use second::entries::{own, Answering, Call, Entry};
 use second::machine::Step;
 use second::numbers::Number;
@@ -96,10 +96,10 @@ fn equal_cells_pass(call: &mut Call) -> u32 {
 /// A machine's row too short is filled up, and what there is no room for is lost.
 fn loses_what_has_no_room(call: &mut Call) -> u32 {
     let length = call.machine.len();
-    if call.entry != Entry::Step || WORDS <= length {
+    if call.entry != Entry::Step || MACHINE_WORDS <= length {
         return own::answer(call);
     }
-    call.machine.resize(WORDS, 0);
+    call.machine.resize(MACHINE_WORDS, 0);
     let returned = own::answer(call);
     call.machine.truncate(length);
     returned

@@ -1,6 +1,6 @@
 //! A machine as words and back.
 
-use second::entries::machine_words::{machine_of, name, place_words, words_of, WORDS};
+use second::entries::machine_words::{machine_of, name, place_words, words_of, MACHINE_WORDS};
 use second::machine::{Buffer, Machine, Operand, Station, StoreBuffer, Tag};
 use second::numbers::Number;
 use second::random::calls::Calls;
@@ -56,7 +56,8 @@ fn where_each_part_stands() {
 
 #[test]
 fn names_and_places_follow_the_words() {
-    let named: Vec<usize> = (0..WORDS).filter(|&word| name(word).ends_with("place")).collect();
+    let named: Vec<usize> =
+        (0..MACHINE_WORDS).filter(|&word| name(word).ends_with("place")).collect();
     assert_eq!(named, place_words());
     assert_eq!(
         [0, 4, 26, 61, 66, 77].map(name),
@@ -100,22 +101,22 @@ fn odd_words() {
     let cut = machine_of(&words[..12]);
     assert_eq!(cut.registers, one_of_each().registers);
     assert_eq!((cut.buffers, cut.stores), ([Buffer::Free; 6], [StoreBuffer::Free; 3]));
-    assert_eq!(words_of(&machine_of(&[])), [0; WORDS]);
+    assert_eq!(words_of(&machine_of(&[])), [0; MACHINE_WORDS]);
 }
 
 /// Each word is damaged often, and each damage that matters to good order is made.
 #[test]
 fn damage_hits_every_word() {
     let mut prng = Prng::new(1);
-    let mut hits = [0; WORDS];
+    let mut hits = [0; MACHINE_WORDS];
     for _ in 0..20 {
         let mut calls = Calls::new(&mut prng, 500);
         for _ in 0..500 {
             let mut words = calls.next(&mut prng).machine;
-            words.resize(WORDS, 0);
+            words.resize(MACHINE_WORDS, 0);
             let before = words.clone();
             damage(&mut prng, &mut words, &[5, 256]);
-            for word in 0..WORDS {
+            for word in 0..MACHINE_WORDS {
                 hits[word] += usize::from(words[word] != before[word]);
             }
         }

@@ -29,7 +29,7 @@ fn same(call: &Call) -> Result<Call, String> {
 
 fn call(work: &Work, entry: Entry) -> Call {
     let mut call = Call::of(entry);
-    call.answer = vec![9; 4];
+    call.answer = vec![9; Entry::Step.answer_words()];
     call.list = work.list.clone();
     call.file = match entry {
         Entry::ReadList | Entry::WriteList => work.file.clone(),

@@ -2,8 +2,8 @@
 
 use super::measure::{medians, side, Side, Task, Times};
 use super::work::{Work, Works};
-use crate::entries::machine_words::{words_of, WORDS};
-use crate::entries::RECORD_WORDS;
+use crate::entries::machine_words::{words_of, MACHINE_WORDS};
+use crate::entries::{Entry, RECORD_WORDS};
 use crate::list_file;
 use crate::machine::{Lent, Machine, Record, Step, REGISTERS};
 use crate::numbers::Number;
@@ -56,7 +56,7 @@ fn plain(proved: Side, twin: Side) -> Task {
 }
 
 fn read(works: &Works) -> Task {
-    let (mut words, mut answer) = (vec![0; LIST_LIMIT], [0; 2]);
+    let (mut words, mut answer) = (vec![0; LIST_LIMIT], [0; Entry::ReadList.answer_words()]);
     let proved = side(works, move |work| {
         black_box(library::read_list(&work.file, &mut words, &mut answer));
         work.list.len()
@@ -71,7 +71,7 @@ fn read(works: &Works) -> Task {
 
 fn write(works: &Works) -> Task {
     let longest = works.all().map(|work| work.file.len()).max().unwrap_or(0);
-    let (mut bytes, mut answer) = (vec![0; longest], [0; 2]);
+    let (mut bytes, mut answer) = (vec![0; longest], [0; Entry::WriteList.answer_words()]);
     let proved = side(works, move |work| {
         black_box(library::write_list(&work.list, &mut bytes, &mut answer));
         work.list.len()
@@ -90,7 +90,7 @@ fn cells() -> Vec<Number> {
 }
 
 fn run(works: &Works) -> Task {
-    let (mut results, mut answer) = (cells(), [0; 3]);
+    let (mut results, mut answer) = (cells(), [0; Entry::Run.answer_words()]);
     let mut log = vec![0; LIST_LIMIT * RECORD_WORDS];
     let proved = side(works, move |work| {
         let mut machine = words_of(&work.machine);
@@ -148,8 +148,11 @@ fn steps(
     Task { proved, twin, carrying_too: Some(carrying_too) }
 }
 
+/// What a step released.
+const RELEASED_WORDS: usize = Entry::Step.answer_words();
+
 fn proved_steps(work: &Work, results: &mut [Number], after: impl Fn(&mut [u64])) -> usize {
-    let (mut machine, mut released) = (words_of(&work.machine), [0; 4]);
+    let (mut machine, mut released) = (words_of(&work.machine), [0; RELEASED_WORDS]);
     for &code in &work.codes {
         library::step(&mut machine, &work.list, &work.operands, results, code, &mut released);
         after(&mut machine);
@@ -161,8 +164,8 @@ fn proved_steps(work: &Work, results: &mut [Number], after: impl Fn(&mut [u64]))
 /// only carries the machine in; a fresh machine for an empty list is only carried out.
 fn only_carried(machine: &mut [u64]) {
     static LONG_LIST: [u32; LIST_LIMIT + 1] = [0; LIST_LIMIT + 1];
-    library::step(machine, &LONG_LIST, &[], &mut [], 0, &mut [0; 4]);
-    library::fresh(&[], &[], &[], &[Number::ZERO; REGISTERS], black_box(&mut [0; WORDS]));
+    library::step(machine, &LONG_LIST, &[], &mut [], 0, &mut [0; RELEASED_WORDS]);
+    library::fresh(&[], &[], &[], &[Number::ZERO; REGISTERS], black_box(&mut [0; MACHINE_WORDS]));
 }
 
 fn alone(works: &Works) -> Task {
@@ -185,7 +188,7 @@ fn alone(works: &Works) -> Task {
 /// The carrying alone: drained, where the next place already says no.
 fn good_order(works: &Works) -> Task {
     static RESULTS: [Number; CELL_LIMIT] = [Number::ZERO; CELL_LIMIT];
-    let test = |work: &Work, words: &[u64; WORDS]| {
+    let test = |work: &Work, words: &[u64; MACHINE_WORDS]| {
         black_box(library::good_order(words, &work.list, &work.operands, &RESULTS))
     };
     let proved = side(works, move |work| {

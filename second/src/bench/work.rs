@@ -1,12 +1,12 @@
 //! What is measured: lists with their files, operands and drained schedules.
 
-use crate::entries::machine_words::{words_of, WORDS};
+use crate::entries::machine_words::{words_of, MACHINE_WORDS};
 use crate::list_file;
-use crate::machine::{Lent, Machine, Step, REGISTERS};
+use crate::machine::{Giver, Lent, Machine, Step, Tag, REGISTERS};
 use crate::numbers::Number;
 use crate::random::schedules::{self, Choice};
 use crate::random::Prng;
-use crate::words::{Fields, Operation, CELL_LIMIT};
+use crate::words::{register_number, Fields, Operation, CELL_LIMIT, OPERATIONS};
 use std::rc::Rc;
 
 /// Rounds take these in turn, so that a branch predictor cannot learn one schedule by heart.
@@ -24,7 +24,7 @@ pub struct Work {
     pub codes: Vec<u32>,
     pub schedule: Vec<u8>,
     /// Machines on the way, spread evenly.
-    pub stands: Vec<(Machine, [u64; WORDS])>,
+    pub stands: Vec<(Machine, [u64; MACHINE_WORDS])>,
 }
 
 /// Groups of works; the works of a group together have a full list's length.
@@ -45,17 +45,27 @@ impl Works {
 
     /// A loop of LD, ADR and STD, always stepped in the same order.
     pub fn periodic(length: usize, lists: usize) -> Works {
-        const LOOP: [(u32, u32, u32); 3] = [(1, 0, 0), (4, 2, 0), (11, 2, 0)];
-        const CODES: [u32; 8] = [0, 17, 0, 49, 42, 58, 0, 65];
+        const LOOP: [(Operation, u32); 3] =
+            [(Operation::Ld, 0), (Operation::Adr, 2), (Operation::Std, 2)];
+        const STEPS: [Step; 8] = [
+            Step::Issue,
+            Step::Arrival(0),
+            Step::Issue,
+            Step::Grant(Giver::Buffer(0)),
+            Step::Completion(Tag::FIRST_ADDER_INDEX),
+            Step::Grant(Giver::Station(Tag::FIRST_ADDER_INDEX)),
+            Step::Issue,
+            Step::Release(0),
+        ];
         let word = |place: usize| {
-            let (operation, r1, operand) = LOOP[place % LOOP.len()];
-            Fields { operation, r1, operand }.word()
+            let (operation, r1) = LOOP[place % LOOP.len()];
+            Fields { operation: operation.number(), r1, operand: 0 }.word()
         };
         Works::of(lists, || {
             let list: Vec<u32> = (0..length / LOOP.len() * LOOP.len()).map(word).collect();
-            let count = list.len() / LOOP.len() * CODES.len();
+            let count = list.len() / LOOP.len() * STEPS.len();
             let next_of_loop = |_: &Machine, _: &Lent, taken: usize| {
-                Step::of_code(CODES[taken % CODES.len()]).filter(|_| taken < count)
+                (taken < count).then(|| STEPS[taken % STEPS.len()])
             };
             Work::new(list, STANDS / lists, next_of_loop)
         })
@@ -76,12 +86,12 @@ impl Works {
 
 /// Any operation, register and cell.
 fn random_word(prng: &mut Prng) -> u32 {
-    let operation = 1 + prng.below(11) as u32;
-    let takes_register = Operation::of_number(operation).is_ok_and(Operation::takes_register);
-    let register = |prng: &mut Prng| 2 * prng.below(REGISTERS) as u32;
+    let (_, operation, _) = prng.pick(OPERATIONS);
+    let register = |prng: &mut Prng| register_number(prng.below(REGISTERS));
     let r1 = register(prng);
-    let operand = if takes_register { register(prng) } else { prng.below(CELL_LIMIT) as u32 };
-    Fields { operation, r1, operand }.word()
+    let operand =
+        if operation.takes_register() { register(prng) } else { prng.below(CELL_LIMIT) as u32 };
+    Fields { operation: operation.number(), r1, operand }.word()
 }
 
 impl Work {
@@ -92,8 +102,9 @@ impl Work {
         mut next: impl FnMut(&Machine, &Lent, usize) -> Option<Step>,
     ) -> Work {
         // Near 1, so that neither side meets many slow subnormals.
-        let operands: Vec<Number> =
-            (0..CELL_LIMIT).map(|cell| Number(0.75 + cell as f64 / 512.0)).collect();
+        let operands: Vec<Number> = (0..CELL_LIMIT)
+            .map(|cell| Number(0.75 + cell as f64 / CELL_LIMIT as f64 / 2.0))
+            .collect();
         let starts = [1.0, 1.25, 0.75, 1.5].map(Number);
         let mut results = vec![Number::ZERO; CELL_LIMIT];
         let mut lent = Lent { list: &list, operands: &operands, results: &mut results };

@@ -3,8 +3,17 @@
 use super::{read_file, Outcome};
 use second::list_file;
 use second::refusal::{Fault, Refusal};
+use second::report::FILE_LIMIT;
 use second::words::{check_list, CellLimits, LIST_LIMIT};
 use std::fmt::Write;
+
+/// What the test program lends: a short word buffer, bytes for the writer, and two areas.
+const SHORT_BUFFER: usize = 2;
+const WRITER_BYTES: usize = 12;
+const AREAS: (usize, usize) = (2, 3);
+
+/// Words of the buffer that are shown.
+const SHOWN_WORDS: usize = 4;
 
 pub fn lists(arguments: &[String]) -> Outcome {
     let mut text = String::new();
@@ -13,7 +22,7 @@ pub fn lists(arguments: &[String]) -> Outcome {
         text.push_str(name);
         match name.bytes().next() {
             Some(b'w') => list_words(&mut text, &bytes),
-            Some(b's') => list_file(&mut text, &bytes, 2),
+            Some(b's') => list_file(&mut text, &bytes, SHORT_BUFFER),
             _ => list_file(&mut text, &bytes, LIST_LIMIT),
         }
     }
@@ -27,23 +36,24 @@ fn list_file(text: &mut String, bytes: &[u8], room: usize) {
     let count = answer.unwrap_or(0);
     say(text, "read", answer.map(|_| bytes.len()));
     let _ = write!(text, " count {count}");
-    let mut back = vec![0; 65536];
+    let mut back = vec![0; FILE_LIMIT];
     let length = say_written(text, &words[..count], &mut back);
     text.push_str(if back[..length] == *bytes { " same words" } else { " words" });
-    for word in words.iter().take(4) {
+    for word in words.iter().take(SHOWN_WORDS) {
         let _ = write!(text, " {word}");
     }
     text.push('\n');
 }
 
-/// The check alone and against areas of 2 and 3 cells, and the writer's answer with room for 12 bytes.
+/// The check alone and against areas, and the writer's answer with room for a few bytes.
 fn list_words(text: &mut String, bytes: &[u8]) {
-    let word = |four: &[u8]| u32::from_be_bytes(four.try_into().unwrap());
-    let list: Vec<u32> = bytes.chunks_exact(4).map(word).collect();
-    for (what, limits) in [("alone", CellLimits::NO_AREAS), ("areas", CellLimits::of_areas(2, 3))] {
+    let word = |bytes: &[u8]| u32::from_be_bytes(bytes.try_into().unwrap());
+    let list: Vec<u32> = bytes.chunks_exact(size_of::<u32>()).map(word).collect();
+    let areas = CellLimits::of_areas(AREAS.0, AREAS.1);
+    for (what, limits) in [("alone", CellLimits::NO_AREAS), ("areas", areas)] {
         say(text, what, check_list(&list, limits).map(|()| list.len()));
     }
-    let mut file = [9; 12];
+    let mut file = [9; WRITER_BYTES];
     say_written(text, &list, &mut file);
     text.push_str(" bytes");
     for byte in file {

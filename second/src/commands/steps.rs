@@ -4,12 +4,24 @@
 //! `operands N`, `results N`, four starts, `changes N` of nine numbers each, `codes N`. A number of the machine is given in quarters.
 
 use super::{read_file, Outcome};
-use second::machine::{Buffer, Lent, Machine, Operand, Station, StoreBuffer, Tag};
+use second::machine::{Buffer, Lent, Machine, Operand, Station, Step, StoreBuffer, Tag, REGISTERS};
 use second::numbers::Number;
 use second::one_at_a_time;
 use second::refusal::Refusal;
 use second::words::Arithmetic;
+use std::array;
 use std::fmt::Write;
+
+/// Lists up to this length are written out.
+const WRITTEN_OUT: usize = 16;
+
+/// What a change puts; any other number puts a live store buffer.
+const PUT_NEXT_PLACE: usize = 0;
+const PUT_REGISTER: usize = 1;
+const PUT_WAITING: usize = 2;
+const PUT_FULL: usize = 3;
+const PUT_HOLDING: usize = 4;
+const PUT_DONE: usize = 5;
 
 pub fn steps(arguments: &[String]) -> Outcome {
     let mut text = String::new();
@@ -38,7 +50,7 @@ impl Numbers<'_> {
     }
 
     fn quarters(&mut self) -> Number {
-        Number(self.next() as f64 / 4.0)
+        quarters(self.next())
     }
 
     fn row<T>(&mut self, read: impl Fn(&mut Self) -> T) -> Vec<T> {
@@ -48,7 +60,7 @@ impl Numbers<'_> {
 
     fn words(&mut self) -> Vec<u32> {
         match self.next() {
-            count @ 0..=16 => (0..count).map(|_| self.next() as u32).collect(),
+            count @ 0..=WRITTEN_OUT => (0..count).map(|_| self.next() as u32).collect(),
             count => vec![self.next() as u32; count],
         }
     }
@@ -59,40 +71,42 @@ impl Numbers<'_> {
         if waits {
             Operand::Waits(Tag(value as u8))
         } else {
-            Operand::Number(Number(value as f64 / 4.0))
+            Operand::Number(quarters(value))
         }
     }
 
-    /// What a change puts where: kind, index, place, cell, operation, sink and source.
+    /// What a change puts, and where: index, place, cell, operation, sink and source.
     fn change(&mut self, machine: &mut Machine) {
-        let [kind, index, place, cell, operation] = [(); 5].map(|()| self.next());
+        let [what, index, place, cell, operation] = array::from_fn(|_| self.next());
         let (sink, source) = (self.operand(), self.operand());
         let number = match sink {
             Operand::Number(number) => number,
             Operand::Waits(_) => Number::ZERO,
         };
-        let operations =
-            [Arithmetic::Add, Arithmetic::Subtract, Arithmetic::Multiply, Arithmetic::Divide];
-        match kind {
-            0 => machine.next = place,
-            1 => machine.registers[index] = sink,
-            2 => machine.buffers[index] = Buffer::Waiting { place, cell },
-            3 => machine.buffers[index] = Buffer::Full { place, number },
-            4 => {
-                machine.stations[index] =
-                    Station::Holding { place, operation: operations[operation], sink, source }
+        match what {
+            PUT_NEXT_PLACE => machine.next = place,
+            PUT_REGISTER => machine.registers[index] = sink,
+            PUT_WAITING => machine.buffers[index] = Buffer::Waiting { place, cell },
+            PUT_FULL => machine.buffers[index] = Buffer::Full { place, number },
+            PUT_HOLDING => {
+                let operation = Arithmetic::ALL[operation];
+                machine.stations[index] = Station::Holding { place, operation, sink, source }
             }
-            5 => machine.stations[index] = Station::Done { place, result: number },
+            PUT_DONE => machine.stations[index] = Station::Done { place, result: number },
             _ => machine.stores[index] = StoreBuffer::Live { place, cell, operand: sink },
         }
     }
+}
+
+fn quarters(count: usize) -> Number {
+    Number(count as f64 / 4.0)
 }
 
 fn session(text: &mut String, numbers: &mut Numbers) {
     let list = numbers.words();
     let operands = numbers.row(Numbers::quarters);
     let mut results = vec![Number::ZERO; numbers.next()];
-    let starts = [(); 4].map(|()| numbers.quarters());
+    let starts = [(); REGISTERS].map(|()| numbers.quarters());
     let mut lent = Lent { list: &list, operands: &operands, results: &mut results };
     let (mut machine, answer) = Machine::fresh(&lent, starts);
     let _ = writeln!(text, "fresh {}", Refusal::number_of(&answer));
@@ -115,8 +129,8 @@ fn one_code(text: &mut String, machine: &mut Machine, lent: &mut Lent, code: u32
     let before = *machine;
     let answer = machine.step(lent, code);
     let _ = write!(text, "{code} {}", Refusal::number_of(&answer));
-    if let (Ok(()), 65..=67) = (answer, code) {
-        let record = before.release_record(code as usize - 65).unwrap();
+    if let (Ok(()), Some(Step::Release(index))) = (answer, Step::of_code(code)) {
+        let record = before.release_record(index).unwrap();
         let _ = write!(text, " release {} {}", record.place, record.cell);
         say_number(text, record.number);
     }

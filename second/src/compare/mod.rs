@@ -42,8 +42,8 @@ pub fn compare(
             return Ok(differs(seed, number, count, &text));
         }
         let by_entries = |prng: &mut Prng| library.and_then(|call| entries::difference(prng, call));
-        let fault = any_order::fault(&mut prng, Machine::step);
-        if let Some(text) = fault.or_else(|| by_entries(&mut prng)) {
+        let failure = any_order::failure(&mut prng, Machine::step);
+        if let Some(text) = failure.or_else(|| by_entries(&mut prng)) {
             stage.remove()?;
             return Ok(differs(seed, number, count, &text));
         }

@@ -46,7 +46,7 @@ fn deeds<'a>(
     let mut deeds = Vec::new();
     let mut place = 0;
     on_fresh_machine(list, operands, |machine, lent| {
-        while let Ok((code, next)) = seven_bit::read(schedule, place) {
+        while let Ok((code, after)) = seven_bit::read(schedule, place) {
             let Some(step) = Step::of_code(u32::from(code)) else {
                 break;
             };
@@ -55,7 +55,7 @@ fn deeds<'a>(
                 break;
             }
             deeds.extend(served.map(|place| Deed { place, step }));
-            place = next;
+            place = after;
         }
     })?;
     Some((deeds, &schedule[place..]))

@@ -1,6 +1,6 @@
 //! A temporary folder in which sessions are run.
 
-use crate::random::sessions::{File, Session};
+use crate::random::sessions::{File, Session, FILES};
 use crate::report::report_names;
 use std::path::{Path, PathBuf};
 use std::process::{Command, ExitStatus};
@@ -26,7 +26,7 @@ impl Outputs {
 }
 
 /// The fourth name is for a program that is given one too many.
-const FILE_NAMES: [&str; 4] = ["list", "operands", "schedule", "ignored"];
+const FILE_NAMES: [&str; FILES + 1] = ["list", "operands", "schedule", "ignored"];
 
 impl Stage {
     pub fn new(program: &Path) -> Result<Stage, String> {

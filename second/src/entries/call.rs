@@ -1,5 +1,6 @@
 //! One call of an entry with everything that it is lent.
 
+use super::RECORD_WORDS;
 use crate::machine::Lent;
 use crate::numbers::Number;
 
@@ -44,6 +45,17 @@ impl Entry {
             Entry::LowestStep => "wethertide_lowest_step",
             Entry::OneAtATime => "wethertide_one_at_a_time",
             Entry::Run => "wethertide_run",
+        }
+    }
+
+    /// Words of its answer beyond the one returned.
+    pub const fn answer_words(self) -> usize {
+        match self {
+            Entry::Fresh | Entry::GoodOrder | Entry::Drained | Entry::OneAtATime => 0,
+            Entry::StepsLeft => 1,
+            Entry::ReadList | Entry::WriteList | Entry::LowestStep => 2,
+            Entry::Run => 3,
+            Entry::Step => 1 + RECORD_WORDS,
         }
     }
 }

@@ -2,6 +2,7 @@
 //! is lent is a row too, of any length; one too short for what it is to hold is refused with 11.
 
 mod call;
+mod machine_layout;
 pub mod machine_words;
 pub mod own;
 

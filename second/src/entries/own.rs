@@ -1,6 +1,6 @@
 //! The calls answered by this program's own machine.
 
-use super::machine_words::{machine_of, words_of, WORDS};
+use super::machine_words::{machine_of, words_of, MACHINE_WORDS};
 use super::{Call, Entry, RECORD_WORDS};
 use crate::list_file;
 use crate::machine::{Machine, Record, Step, REGISTERS};
@@ -36,16 +36,18 @@ pub fn answer(call: &mut Call) -> u32 {
 
 /// Whether a row has no room for what it is to hold, which is found out before anything else.
 fn short(call: &Call) -> bool {
-    let (machine, answer, starts) = match call.entry {
-        Entry::ReadList | Entry::WriteList => (0, 2, 0),
-        Entry::Fresh => (WORDS, 0, REGISTERS),
-        Entry::Step => (WORDS, 1 + RECORD_WORDS, 0),
-        Entry::GoodOrder | Entry::Drained => (WORDS, 0, 0),
-        Entry::StepsLeft => (WORDS, 1, 0),
-        Entry::LowestStep => (WORDS, 2, 0),
-        Entry::OneAtATime => (0, 0, REGISTERS),
-        Entry::Run => (WORDS, 3, 0),
+    let (machine, starts) = match call.entry {
+        Entry::ReadList | Entry::WriteList => (0, 0),
+        Entry::OneAtATime => (0, REGISTERS),
+        Entry::Fresh => (MACHINE_WORDS, REGISTERS),
+        Entry::Step
+        | Entry::GoodOrder
+        | Entry::Drained
+        | Entry::StepsLeft
+        | Entry::LowestStep
+        | Entry::Run => (MACHINE_WORDS, 0),
     };
+    let answer = call.entry.answer_words();
     call.machine.len() < machine || call.answer.len() < answer || call.starts.len() < starts
 }
 
@@ -93,7 +95,7 @@ fn step(call: &mut Call) -> u32 {
             let [place, cell, pattern] = record_words(&record);
             [1, place, cell, pattern]
         }
-        None => [0; 4],
+        None => [0; Entry::Step.answer_words()],
     };
     if answer.is_ok() {
         put(&mut call.machine, &words_of(&machine));

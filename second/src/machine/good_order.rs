@@ -1,6 +1,6 @@
 //! Good order (01, "Tags and what the machine holds").
 
-use super::{Buffer, Giver, Machine, Operand, Station, StoreBuffer, Tag};
+use super::{Buffer, Giver, Machine, Operand, Station, StoreBuffer, Tag, STORE_BUFFERS};
 use crate::words::{Arithmetic, CellLimits};
 
 impl Machine {
@@ -77,11 +77,11 @@ impl Machine {
     }
 
     fn live_store_cells_differ(&self) -> bool {
-        let cell = |index: usize| match self.stores[index] {
+        let cells = self.stores.map(|store| match store {
             StoreBuffer::Free => None,
             StoreBuffer::Live { cell, .. } => Some(cell),
-        };
+        });
         let differ = |one: Option<usize>, other: Option<usize>| one.is_none() || one != other;
-        differ(cell(0), cell(1)) && differ(cell(0), cell(2)) && differ(cell(1), cell(2))
+        (1..STORE_BUFFERS).all(|one| (0..one).all(|other| differ(cells[one], cells[other])))
     }
 }

@@ -8,16 +8,20 @@ mod progress;
 mod step_code;
 mod steps;
 
-pub use step_code::Step;
+pub use step_code::{CodeRange, Step, STEP_CODES};
 
 use crate::numbers::Number;
 use crate::refusal::Refusal;
 use crate::words::{check_list, Arithmetic, CellLimits};
 
 pub const REGISTERS: usize = 4;
-pub const BUFFERS: usize = 6;
-pub const STATIONS: usize = 5;
-pub const STORE_BUFFERS: usize = 3;
+pub const BUFFERS: usize = (Tag::LAST_BUFFER - Tag::FIRST_BUFFER + 1) as usize;
+pub const STATIONS: usize = (Tag::LAST_STATION - Tag::FIRST_STATION + 1) as usize;
+pub const STORE_BUFFERS: usize = (LAST_STORE - FIRST_STORE + 1) as usize;
+
+/// Store buffers have numbers, but no tags.
+pub const FIRST_STORE: u32 = 1;
+const LAST_STORE: u32 = 3;
 
 #[derive(Clone, Copy, Debug, PartialEq, Eq)]
 pub struct Tag(pub u8);
@@ -30,13 +34,13 @@ pub enum Giver {
 }
 
 impl Tag {
-    const FIRST_BUFFER: u8 = 1;
-    const LAST_BUFFER: u8 = 6;
-    const FIRST_STATION: u8 = 8;
-    const LAST_STATION: u8 = 12;
+    pub const FIRST_BUFFER: u8 = 1;
+    pub const LAST_BUFFER: u8 = 6;
+    pub const FIRST_STATION: u8 = 8;
+    pub const LAST_STATION: u8 = 12;
     /// Stations from here on add; those before multiply and divide.
-    const FIRST_ADDER: u8 = 10;
-    const FIRST_ADDER_INDEX: usize = (Tag::FIRST_ADDER - Tag::FIRST_STATION) as usize;
+    pub const FIRST_ADDER: u8 = 10;
+    pub const FIRST_ADDER_INDEX: usize = (Tag::FIRST_ADDER - Tag::FIRST_STATION) as usize;
 
     pub fn of_buffer(index: usize) -> Tag {
         Tag(Tag::FIRST_BUFFER + index as u8)

@@ -54,8 +54,9 @@ impl Machine {
     /// The smallest permitted code, or none exactly when drained.
     pub fn lowest_step(&self, lent: &Lent) -> Result<Option<u32>, Refusal> {
         self.check_with(lent)?;
-        let step = Step::all().find(|&step| self.permits(lent.list, lent.limits(), step));
-        Ok(step.map(Step::code))
+        let mut known = Step::known();
+        let lowest = known.find(|&(_, step)| self.permits(lent.list, lent.limits(), step));
+        Ok(lowest.map(|(code, _)| code))
     }
 
     /// The whole list against its areas, then good order.

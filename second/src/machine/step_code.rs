@@ -1,6 +1,7 @@
-//! Step codes (01, "Steps").
+//! Step codes (01, "Steps"): one table, and everything that is said of codes comes from it.
 
-use super::{Giver, Tag, BUFFERS, STORE_BUFFERS};
+use super::{Giver, Tag, FIRST_STORE, LAST_STORE};
+use std::ops::Range;
 
 /// A known step; buffers, stations and store buffers are named by index.
 #[derive(Clone, Copy, Debug, PartialEq, Eq)]
@@ -12,44 +13,103 @@ pub enum Step {
     Release(usize),
 }
 
-impl Step {
-    pub const ARRIVAL: u32 = 16;
-    pub const COMPLETION: u32 = 32;
-    pub const GRANT: u32 = 48;
-    pub const RELEASE: u32 = 64;
-    /// Codes of one kind of step differ in their last four bits.
-    pub const NUMBERS: u32 = 16;
+/// Known codes without a gap: `base` and the number of a slot, `first` to `last`. Slots are
+/// numbered from 1; a step that needs none has the number 0.
+pub struct CodeRange {
+    base: u32,
+    pub first: u32,
+    pub last: u32,
+    /// The step of a slot, by index.
+    step: fn(usize) -> Step,
+    /// What a schedule's text calls it.
+    pub name: &'static str,
+}
 
-    pub fn of_code(code: u32) -> Option<Step> {
-        let number = code % Step::NUMBERS;
-        let index = (number as usize).wrapping_sub(1);
-        let giver = || Tag(number as u8).giver();
-        match code - number {
-            0 if number == 0 => Some(Step::Issue),
-            Step::ARRIVAL if index < BUFFERS => Some(Step::Arrival(index)),
-            Step::COMPLETION => match giver() {
-                Some(Giver::Station(index)) => Some(Step::Completion(index)),
-                _ => None,
-            },
-            Step::GRANT => giver().map(Step::Grant),
-            Step::RELEASE if index < STORE_BUFFERS => Some(Step::Release(index)),
-            _ => None,
-        }
+const NO_NUMBERS: (u32, u32) = (0, 0);
+const BUFFER_NUMBERS: (u32, u32) = (Tag::FIRST_BUFFER as u32, Tag::LAST_BUFFER as u32);
+const STATION_NUMBERS: (u32, u32) = (Tag::FIRST_STATION as u32, Tag::LAST_STATION as u32);
+const STORE_NUMBERS: (u32, u32) = (FIRST_STORE, LAST_STORE);
+
+/// Lowest codes first.
+pub const STEP_CODES: &[CodeRange] = &[
+    range(0, NO_NUMBERS, |_| Step::Issue, "issue"),
+    range(16, BUFFER_NUMBERS, Step::Arrival, "arrive"),
+    range(32, STATION_NUMBERS, Step::Completion, "complete"),
+    range(48, BUFFER_NUMBERS, |index| Step::Grant(Giver::Buffer(index)), "grant"),
+    range(48, STATION_NUMBERS, |index| Step::Grant(Giver::Station(index)), "grant"),
+    range(64, STORE_NUMBERS, Step::Release, "release"),
+];
+
+/// A range in the wrong place does not compile: the lowest step and the limit go by the order.
+const _: () = {
+    let mut above = 1;
+    while above < STEP_CODES.len() {
+        assert!(STEP_CODES[above - 1].end() <= STEP_CODES[above].start(), "lowest codes first");
+        above += 1;
+    }
+};
+
+const fn range(
+    base: u32,
+    (first, last): (u32, u32),
+    step: fn(usize) -> Step,
+    name: &'static str,
+) -> CodeRange {
+    CodeRange { base, first, last, step, name }
+}
+
+impl CodeRange {
+    const fn start(&self) -> u32 {
+        self.base + self.first
     }
 
+    /// The number above its last code.
+    const fn end(&self) -> u32 {
+        self.base + self.last + 1
+    }
+
+    pub fn codes(&self) -> Range<u32> {
+        self.start()..self.end()
+    }
+
+    fn step_of_code(&self, code: u32) -> Option<Step> {
+        let index = code.checked_sub(self.start())?;
+        (code < self.end()).then(|| (self.step)(index as usize))
+    }
+
+    /// The number of the slot that a code names.
+    pub fn slot_of_code(&self, code: u32) -> Option<u32> {
+        self.codes().contains(&code).then(|| code - self.base)
+    }
+
+    /// The code of a slot, by number.
+    pub fn code_of_slot(&self, slot: u32) -> Option<u32> {
+        (self.first..=self.last).contains(&slot).then_some(self.base + slot)
+    }
+}
+
+impl Step {
+    /// The first number above the last known code.
+    pub const CODE_LIMIT: usize = STEP_CODES[STEP_CODES.len() - 1].end() as usize;
+
+    pub fn of_code(code: u32) -> Option<Step> {
+        STEP_CODES.iter().find_map(|range| range.step_of_code(code))
+    }
+
+    /// Of a slot that does not exist an unknown code.
     pub fn code(self) -> u32 {
-        match self {
-            Step::Issue => 0,
-            Step::Arrival(index) => Step::ARRIVAL + u32::from(Tag::of_buffer(index).0),
-            Step::Completion(index) => Step::COMPLETION + u32::from(Tag::of_station(index).0),
-            Step::Grant(Giver::Buffer(index)) => Step::GRANT + u32::from(Tag::of_buffer(index).0),
-            Step::Grant(Giver::Station(index)) => Step::GRANT + u32::from(Tag::of_station(index).0),
-            Step::Release(index) => Step::RELEASE + 1 + index as u32,
-        }
+        let found = Step::known().find(|&(_, step)| step == self);
+        found.map_or(Step::CODE_LIMIT as u32, |(code, _)| code)
+    }
+
+    /// All known codes with their steps, lowest first.
+    pub fn known() -> impl Iterator<Item = (u32, Step)> {
+        let of_range = |range: &'static CodeRange| range.codes().zip((0..).map(range.step));
+        STEP_CODES.iter().flat_map(of_range)
     }
 
     /// All known steps, lowest code first.
     pub fn all() -> impl Iterator<Item = Step> {
-        (0..=Step::RELEASE + STORE_BUFFERS as u32).filter_map(Step::of_code)
+        Step::known().map(|(_, step)| step)
     }
 }

@@ -6,11 +6,14 @@ use super::{bytes, strain, Prng};
 use crate::entries::machine_words::words_of;
 use crate::entries::{Call, Entry, RECORD_WORDS};
 use crate::list_file;
-use crate::machine::{Machine, Step};
+use crate::machine::{Machine, Step, REGISTERS};
 use crate::words::LIST_LIMIT;
 
+/// Schedules have fewer steps.
+const SCHEDULE_LIMIT: usize = 150;
+
 /// How often each entry is called, in all a hundred.
-const SHARES: [(Entry, usize); 10] = [
+const SHARES: &[(Entry, usize)] = &[
     (Entry::Step, 44),
     (Entry::Run, 12),
     (Entry::GoodOrder, 12),
@@ -22,6 +25,12 @@ const SHARES: [(Entry, usize); 10] = [
     (Entry::ReadList, 4),
     (Entry::WriteList, 4),
 ];
+
+/// Lengths of the row of start numbers, most of them right.
+const STARTS_LENGTHS: [usize; 10] = {
+    let right = REGISTERS;
+    [right, right, right, right, right, right, right, right - 1, 0, right + 1]
+};
 
 /// A machine on its way through a setting, and the calls made of it.
 pub struct Calls {
@@ -70,7 +79,8 @@ impl Calls {
     fn plain(&self, prng: &mut Prng, entry: Entry) -> Call {
         let mut call = Call::of(entry);
         call.list = self.setting.list.clone();
-        call.answer = vec![prng.number(); if entry == Entry::Step { 4 } else { 3 }];
+        let answer_words = entry.answer_words().max(Entry::Run.answer_words());
+        call.answer = vec![prng.number(); answer_words];
         match entry {
             Entry::ReadList => read_list(prng, &mut call),
             Entry::WriteList => write_list(prng, &mut call),
@@ -87,7 +97,7 @@ impl Calls {
             Entry::Step => call.code = self.code(prng),
             Entry::Run => self.schedule_and_log(prng, call),
             Entry::Fresh | Entry::OneAtATime => {
-                let length = prng.pick(&[4, 4, 4, 4, 4, 4, 4, 3, 0, 5]);
+                let length = prng.pick(&STARTS_LENGTHS);
                 call.starts = (0..length).map(|_| number(prng)).collect();
             }
             _ => {}
@@ -97,17 +107,19 @@ impl Calls {
     fn code(&self, prng: &mut Prng) -> u32 {
         let mut results = self.setting.results.clone();
         let lent = self.setting.lent(&mut results);
-        let permitted = self.choice.step(prng, &self.machine, &lent).map_or(0, Step::code);
-        let blocked = schedules::blocked_step(prng, &self.machine, &lent).map_or(0, Step::code);
+        let code_of = |step: Option<Step>| step.unwrap_or(Step::Issue).code();
+        let permitted = code_of(self.choice.step(prng, &self.machine, &lent));
+        let blocked = code_of(schedules::blocked_step(prng, &self.machine, &lent));
         match prng.below(10) {
             0..=3 => permitted,
             4..=5 => blocked,
-            6 => prng.below(68) as u32,
-            7 => prng.pick(&[7, 16, 23, 24, 39, 45, 48, 55, 61, 64, 68, 80, 127, 128, 255]),
+            6 => prng.below(Step::CODE_LIMIT) as u32,
+            7 => prng.pick(&schedules::stray_codes()).into(),
             8 => permitted.wrapping_add(prng.pick(&[1 << 7, 1 << 8, 1 << 16, 1 << 31])),
             _ => {
                 let any = prng.number() as u32;
-                prng.pick(&[0, 0, u32::MAX, any])
+                let issue = Step::Issue.code();
+                prng.pick(&[issue, issue, u32::MAX, any])
             }
         }
     }
@@ -122,12 +134,12 @@ impl Calls {
         call.log = vec![prng.number(); room * RECORD_WORDS + cut];
     }
 
-    /// Permitted steps from this machine on, at most 150, some with a stray code among them.
+    /// Permitted steps from this machine on, some with a stray code among them.
     fn codes_from_here(&self, prng: &mut Prng) -> Vec<u16> {
         let (mut machine, mut results) = (self.machine, self.setting.results.clone());
         let mut lent = self.setting.lent(&mut results);
         let mut codes = Vec::new();
-        for _ in 0..prng.below(150) {
+        for _ in 0..prng.below(SCHEDULE_LIMIT) {
             let step = self.choice.step(prng, &machine, &lent);
             let Some(step) = step.filter(|&step| machine.take(&mut lent, step).is_ok()) else {
                 break;
@@ -147,7 +159,7 @@ fn fresh(setting: &Setting) -> Machine {
 
 fn entry(prng: &mut Prng) -> Entry {
     let mut drawn = prng.below(100);
-    for (entry, share) in SHARES {
+    for &(entry, share) in SHARES {
         if drawn < share {
             return entry;
         }

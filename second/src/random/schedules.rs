@@ -1,9 +1,10 @@
 //! Random schedules, most of them driven by a machine of our own.
 
 use super::{bytes, Prng};
-use crate::machine::{Lent, Machine, Step, REGISTERS};
+use crate::machine::{CodeRange, Lent, Machine, Step, BUFFERS, REGISTERS, STEP_CODES};
 use crate::numbers::Number;
 use crate::seven_bit;
+use std::collections::BTreeSet;
 
 /// How the next of the permitted steps is chosen.
 #[derive(Clone, Copy)]
@@ -82,7 +83,16 @@ fn choose(prng: &mut Prng, choice: Choice, steps: &[Step]) -> Option<Step> {
 
 /// Any codes at all, known and unknown.
 pub fn any(prng: &mut Prng) -> Vec<u16> {
-    let mix: &[usize] = prng.pick(&[&[68], &[68, 24, 1], &[65_536, 68, 1]]);
+    let number_limit = usize::from(seven_bit::GREATEST) + 1;
+    // Issue alone, and up to the unknown code above the arrivals.
+    let issue_limit = Step::Issue.code() as usize + 1;
+    let arrival_limit = Step::Arrival(BUFFERS - 1).code() as usize + 2;
+    let mixes: [&[usize]; 3] = [
+        &[Step::CODE_LIMIT],
+        &[Step::CODE_LIMIT, arrival_limit, issue_limit],
+        &[number_limit, Step::CODE_LIMIT, issue_limit],
+    ];
+    let mix = prng.pick(&mixes);
     (0..prng.below(30))
         .map(|_| {
             let limit = prng.pick(mix);
@@ -91,18 +101,29 @@ pub fn any(prng: &mut Prng) -> Vec<u16> {
         .collect()
 }
 
+/// Numbers at the edges of a byte and of the groups of a file.
+const LARGE_CODES: [u32; 5] = [127, 128, 255, 16_384, 65_535];
+
+/// Unknown codes: the neighbours of each range of known ones, and a few large ones.
+pub fn stray_codes() -> Vec<u16> {
+    let neighbours = |range: &CodeRange| {
+        let known = range.codes();
+        [known.start.checked_sub(1), Some(known.end)]
+    };
+    let numbers = STEP_CODES.iter().flat_map(neighbours).flatten().chain(LARGE_CODES);
+    let unknown: BTreeSet<u32> = numbers.filter(|&code| Step::of_code(code).is_none()).collect();
+    unknown.into_iter().map(|code| code as u16).collect()
+}
+
 /// Cuts the schedule or puts a stray code into it.
 pub fn damage(prng: &mut Prng, codes: &mut Vec<u16>) {
     let place = prng.below(codes.len() + 1);
     match prng.below(4) {
         0 => codes.truncate(place),
-        1 => codes.insert(
-            place,
-            prng.pick(&[7, 16, 23, 39, 45, 48, 55, 61, 64, 68, 128, 16_384, 65_535]),
-        ),
-        2 => codes.insert(place, prng.below(68) as u16),
+        1 => codes.insert(place, prng.pick(&stray_codes())),
+        2 => codes.insert(place, prng.below(Step::CODE_LIMIT) as u16),
         _ if place < codes.len() => drop(codes.remove(place)),
-        _ => codes.push(0),
+        _ => codes.push(Step::Issue.code() as u16),
     }
 }
 

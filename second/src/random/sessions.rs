@@ -2,10 +2,10 @@
 
 use super::{bytes, lists, operands, schedules, Prng};
 use crate::list_file;
-use crate::machine::Lent;
+use crate::machine::{Lent, Step, STORE_BUFFERS};
 use crate::numbers::Number;
 use crate::report::LOG_RECORDS;
-use crate::words::{CellLimits, Fields, CELL_LIMIT, LIST_LIMIT};
+use crate::words::{CellLimits, Fields, Operation, CELL_LIMIT, LIST_LIMIT};
 
 /// What stands behind one of the three names.
 #[derive(Clone, Debug, PartialEq, Eq)]
@@ -20,9 +20,10 @@ pub struct Session {
     /// How many names the program is given; a fourth one is ignored.
     pub names: usize,
     /// List, operands and schedule.
-    pub files: [File; 3],
+    pub files: [File; FILES],
 }
 
+pub const FILES: usize = 3;
 pub const LIST: usize = 0;
 pub const OPERANDS: usize = 1;
 pub const SCHEDULE: usize = 2;
@@ -33,7 +34,7 @@ pub fn session(prng: &mut Prng) -> Session {
     let files =
         [list_bytes(prng, list), operand_bytes(prng, &patterns), schedule_bytes(prng, codes)];
     Session {
-        names: if prng.percent(2) { prng.pick(&[0, 1, 2, 4]) } else { 3 },
+        names: if prng.percent(2) { prng.pick(&[0, 1, 2, FILES + 1]) } else { FILES },
         files: files.map(|bytes| match prng.below(200) {
             0 => File::Missing,
             1 => File::Folder,
@@ -56,8 +57,8 @@ fn list_and_patterns(prng: &mut Prng) -> (Vec<u32>, Vec<u64>) {
 
 fn stores_around_the_log_limit(prng: &mut Prng) -> Vec<u32> {
     let length = LOG_RECORDS - 1 + prng.below(3);
-    let store =
-        |place: usize| Fields { operation: 11, r1: 0, operand: (place % CELL_LIMIT) as u32 };
+    let operation = Operation::Std.number();
+    let store = |place: usize| Fields { operation, r1: 0, operand: (place % CELL_LIMIT) as u32 };
     (0..length).map(|place| store(place).word()).collect()
 }
 
@@ -74,7 +75,7 @@ fn codes(prng: &mut Prng, list: &[u32], patterns: &[u64]) -> Vec<u16> {
     }
     if list.len() >= LOG_RECORDS && prng.percent(50) {
         // A release that is not permitted is refused with 7 even when the log is full.
-        codes.push(prng.pick(&[65, 66, 67]));
+        codes.push(Step::Release(prng.below(STORE_BUFFERS)).code() as u16);
     }
     codes
 }

@@ -2,8 +2,9 @@
 
 use super::settings::number;
 use super::{lists, machines, Prng};
+use crate::entries::machine_words::NEXT_PLACE;
 use crate::entries::{Call, Entry};
-use crate::words::{CELL_LIMIT, LIST_LIMIT};
+use crate::words::{Fields, Operation, CELL_LIMIT, LIST_LIMIT};
 
 /// Several at once are wanted too: then the order of refusals is seen.
 pub fn strain(prng: &mut Prng, call: &mut Call) {
@@ -26,13 +27,13 @@ pub fn strain(prng: &mut Prng, call: &mut Call) {
     }
     if prng.percent(10) {
         let junk = prng.number();
-        call.answer.resize(prng.below(6), junk);
+        call.answer.resize(prng.below(Entry::Step.answer_words() + 2), junk);
     }
 }
 
 /// Half of the bad words stand where the next issue finds them.
 fn strain_list(prng: &mut Prng, call: &mut Call) {
-    let next = call.machine[0] as usize;
+    let next = call.machine[NEXT_PLACE] as usize;
     if prng.percent(50) && next < call.list.len() {
         lists::damage(prng, &mut call.list[next..=next]);
     } else if prng.percent(20) {
@@ -45,7 +46,8 @@ fn strain_list(prng: &mut Prng, call: &mut Call) {
 /// Bad words, or a list at its limit or one word beyond.
 pub fn damage_list(prng: &mut Prng, list: &mut Vec<u32>) {
     if prng.percent(15) {
-        let filler = list.last().copied().unwrap_or(0x2_0000);
+        let copy = Fields { operation: Operation::Ldr.number(), r1: 0, operand: 0 };
+        let filler = list.last().copied().unwrap_or(copy.word());
         list.resize(LIST_LIMIT + prng.below(2), filler);
     }
     if prng.percent(85) {

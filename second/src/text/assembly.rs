@@ -11,21 +11,19 @@ pub fn assemble(text: &str) -> Result<Vec<u8>, LineError> {
     Ok(list_file::encode(&list))
 }
 
-fn instruction(entry: &str) -> Result<u32, String> {
-    let (name, operands) = entry.split_once(char::is_whitespace).unwrap_or((entry, ""));
-    let index = OPERATIONS
+fn instruction(phrase: &str) -> Result<u32, String> {
+    let (name, operands) = phrase.split_once(char::is_whitespace).unwrap_or((phrase, ""));
+    let (name, operation, _) = OPERATIONS
         .iter()
-        .position(|(known, ..)| name.eq_ignore_ascii_case(known))
+        .find(|(known, ..)| name.eq_ignore_ascii_case(known))
         .ok_or_else(|| format!("unknown operation `{name}`"))?;
-    let (name, operation, _) = OPERATIONS[index];
     let example = if operation.takes_register() { "F0,F2" } else { "F0,0" };
     let (r1, operand) = operands
         .split_once(',')
         .ok_or_else(|| format!("{name} needs two operands, as in `{name} {example}`"))?;
     let r1 = register(r1.trim())?;
-    let operand = operand_field(operation, operand.trim())?;
-    let operation = index as u32 + 1;
-    Ok(Fields { operation, r1, operand }.word())
+    let operand = operand_field(*operation, operand.trim())?;
+    Ok(Fields { operation: operation.number(), r1, operand }.word())
 }
 
 fn operand_field(operation: Operation, text: &str) -> Result<u32, String> {

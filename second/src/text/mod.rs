@@ -1,4 +1,4 @@
-//! Files as text and back. A text has one entry a line; `#` and `;` begin a comment.
+//! Files as text and back. A text has one phrase a line; `#` and `;` begin a comment.
 
 pub mod assembly;
 pub mod operands;
@@ -19,23 +19,23 @@ impl fmt::Display for LineError {
     }
 }
 
-/// Reads each line that has an entry; at most `limit` of them, called `entries`, are allowed.
+/// Reads each line that has a phrase; at most `limit` of them, called `what`, are allowed.
 fn read_lines<T>(
     text: &str,
-    (limit, entries): (usize, &str),
+    (limit, what): (usize, &str),
     read: impl Fn(&str) -> Result<T, String>,
 ) -> Result<Vec<T>, LineError> {
     let mut all = Vec::new();
     for (index, line) in text.lines().enumerate() {
-        let entry = line.split(['#', ';']).next().unwrap_or_default().trim();
-        if entry.is_empty() {
+        let phrase = line.split(['#', ';']).next().unwrap_or_default().trim();
+        if phrase.is_empty() {
             continue;
         }
-        let fault = |reason| LineError { line: index + 1, reason };
+        let wrong = |reason| LineError { line: index + 1, reason };
         if all.len() == limit {
-            return Err(fault(format!("more than {limit} {entries}")));
+            return Err(wrong(format!("more than {limit} {what}")));
         }
-        all.push(read(entry).map_err(fault)?);
+        all.push(read(phrase).map_err(wrong)?);
     }
     Ok(all)
 }

@@ -3,8 +3,11 @@
 use super::{read_lines, LineError};
 use crate::numbers::Number;
 use crate::refusal::Fault;
-use crate::report::read_operands;
+use crate::report::{read_operands, PATTERN_BYTES};
 use crate::words::CELL_LIMIT;
+
+/// Hexadecimal digits of a whole pattern.
+const PATTERN_DIGITS: usize = 2 * PATTERN_BYTES;
 
 /// The operands file of a text.
 pub fn to_file(text: &str) -> Result<Vec<u8>, LineError> {
@@ -12,20 +15,20 @@ pub fn to_file(text: &str) -> Result<Vec<u8>, LineError> {
     Ok(numbers.iter().flat_map(|number| number.pattern().to_be_bytes()).collect())
 }
 
-fn number(entry: &str) -> Result<Number, String> {
-    let Some(digits) = entry.strip_prefix("0x").or_else(|| entry.strip_prefix("0X")) else {
-        return entry.parse().map(Number).map_err(|_| {
+fn number(phrase: &str) -> Result<Number, String> {
+    let Some(digits) = phrase.strip_prefix("0x").or_else(|| phrase.strip_prefix("0X")) else {
+        return phrase.parse().map(Number).map_err(|_| {
             format!(
-                "`{entry}` is neither a decimal number nor a pattern such as 0x3FF0000000000000"
+                "`{phrase}` is neither a decimal number nor a pattern such as 0x3FF0000000000000"
             )
         });
     };
     let only_digits = digits.bytes().all(|byte| byte.is_ascii_hexdigit());
     u64::from_str_radix(digits, 16)
         .ok()
-        .filter(|_| only_digits && digits.len() <= 16)
+        .filter(|_| only_digits && digits.len() <= PATTERN_DIGITS)
         .map(Number::from_pattern)
-        .ok_or_else(|| format!("`{entry}` is not 0x and 1 to 16 hexadecimal digits"))
+        .ok_or_else(|| format!("`{phrase}` is not 0x and 1 to {PATTERN_DIGITS} hexadecimal digits"))
 }
 
 /// The text of an operands file, one number a line.

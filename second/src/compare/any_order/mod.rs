@@ -21,6 +21,9 @@ pub type TakeStep = fn(&mut Machine, &mut Lent, u32) -> Result<(), Refusal>;
 /// Steps left are counted anew after each step, which takes time with the list's length.
 const LONGEST_LIST: usize = 300;
 
+/// Codes that may be refused are below this; the last two are always unknown.
+const ANY_CODE_LIMIT: usize = Step::CODE_LIMIT + 2;
+
 #[derive(Clone, Debug, PartialEq)]
 struct Journey {
     setting: Setting,
@@ -28,7 +31,7 @@ struct Journey {
 }
 
 /// A random list and order of steps; what is wrong, as text, in the smallest form found.
-pub fn fault(prng: &mut Prng, take: TakeStep) -> Option<String> {
+pub fn failure(prng: &mut Prng, take: TakeStep) -> Option<String> {
     let journey = Journey::random(prng, take);
     journey.follow(take).err()?;
     let smallest = journey.shrink(|smaller| smaller.follow(take).is_err());
@@ -64,7 +67,7 @@ impl Journey {
         for _ in 0..machine.steps_left(&lent).unwrap_or(0) {
             if prng.percent(25) {
                 let blocked = schedules::blocked_step(prng, &machine, &lent);
-                let any = prng.below(70) as u32;
+                let any = prng.below(ANY_CODE_LIMIT) as u32;
                 codes.push(blocked.filter(|_| prng.percent(50)).map_or(any, Step::code));
                 let _ = take(&mut machine, &mut lent, codes[codes.len() - 1]);
             }
@@ -88,7 +91,7 @@ impl Journey {
         }
         let mut promises = Promises { machine, take, alone: Alone::of(&self.setting) };
         for (index, &code) in self.codes.iter().enumerate() {
-            let at_code = |fault| format!("code {code}, number {}: {fault}", index + 1);
+            let at_code = |reason| format!("code {code}, number {}: {reason}", index + 1);
             promises.some_step_permitted(&lent).map_err(at_code)?;
             promises.one_code(&mut lent, code).map_err(at_code)?;
         }
