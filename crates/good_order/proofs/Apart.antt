@@ -9,8 +9,8 @@ use lib.ListN.{getD, List·getD-map}
 use borrow.Author.Tests.{eqb-true, eqb-false, eq-eqb, ne-eqb}
 use Rattle.theory_machine.specs.Machine.{StoreBuffer, freeStore, storeCell}
 use Rattle.theory_machine.specs.GoodOrder.{apart}
-use Rattle.machine_parts.specs.declared.parts.StoreBuffer as code
-use Rattle.machine_parts.specs.declared.parts.StoreState.the-variants.{Free}
+use Rattle.machine_parts.specs.declared.StoreBuffer as code
+use Rattle.machine_parts.specs.declared.StoreState.the-variants.{Free}
 use Rattle.machine_parts.specs.View.{viewStore}
 use Rattle.good_order.specs.SlotRules.{cellsApart, storesApart}
 

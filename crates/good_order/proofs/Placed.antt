@@ -14,10 +14,10 @@ use Rattle.theory_machine.specs.Machine.{Buffer, freeBuffer, waiting, full, Sta
 use Rattle.theory_machine.specs.GoodOrder.{nobody, isSome, before, bufferGiver, stationGiver, giverIn, giver, placeBelow}
 use Rattle.theory_machine.proofs.Rows.{bool-cases, above, allBelow-at}
 use Rattle.theory_machine.proofs.Tags.{SlotView, is-buffer, is-station, slot-view}
-use Rattle.machine_parts.specs.declared.parts.Buffer as code-buffer
-use Rattle.machine_parts.specs.declared.parts.BufferState.the-variants as buffer-state
-use Rattle.machine_parts.specs.declared.parts.Station as code-station
-use Rattle.machine_parts.specs.declared.parts.StationState.the-variants as station-state
+use Rattle.machine_parts.specs.declared.Buffer as code-buffer
+use Rattle.machine_parts.specs.declared.BufferState.the-variants as buffer-state
+use Rattle.machine_parts.specs.declared.Station as code-station
+use Rattle.machine_parts.specs.declared.StationState.the-variants as station-state
 use Rattle.machine_parts.specs.View.{viewBuffer, viewStation}
 use Rattle.good_order.specs.SlotRules.{never, placeOf, tags, placeTable, placeIn}
 use Rattle.good_order.proofs.Loops.{viewed}

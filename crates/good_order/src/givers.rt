@@ -1,9 +1,9 @@
 // Who gives a tag: the place that the buffer or station of each tag holds.
-use machine_parts::parts::Buffer;
-use machine_parts::parts::BufferState;
-use machine_parts::parts::Station;
-use machine_parts::parts::StationState;
-use machine_parts::parts::Tag;
+use machine_parts::Buffer;
+use machine_parts::BufferState;
+use machine_parts::Station;
+use machine_parts::StationState;
+use machine_parts::Tag;
 ghost use mathlib.Core.Path.{_≡_};
 ghost use mathlib.Core.List.{map};
 ghost use Rattle.theory_machine.specs.GoodOrder.{bufferGiver, stationGiver};
@@ -20,7 +20,7 @@ fn buffer_place(buffer: Buffer) -> usize
     match state {
         BufferState::Free => NEVER,
         BufferState::Waiting(fetch) => fetch.place,
-        BufferState::Full(held) => held.place,
+        BufferState::Full(fetched) => fetched.place,
     }
 }
 
@@ -31,12 +31,15 @@ fn station_place(station: Station) -> usize
     match state {
         StationState::Free => NEVER,
         StationState::Holding(work) => work.place,
-        StationState::Done(held) => held.place,
+        StationState::Done(worked) => worked.place,
     }
 }
 
 // By tag; 0 and 7 are nobody's.
-pub(crate) fn giver_places(buffers: [Buffer; 6], stations: [Station; 5]) -> [usize; 13]
+pub(crate) fn giver_places(
+    buffers: [Buffer; Tag::BUFFERS],
+    stations: [Station; Tag::STATIONS],
+) -> [usize; Tag::LIMIT]
     ensures { λ r. ⌜ r ≡ placeTable (map viewBuffer buffers) (map viewStation stations) ⌝ }
 {
     let b1 = buffer_place(buffers[0]);
@@ -53,7 +56,7 @@ pub(crate) fn giver_places(buffers: [Buffer; 6], stations: [Station; 5]) -> [usi
     [NEVER, b1, b2, b3, b4, b5, b6, NEVER, s8, s9, s10, s11, s12]
 }
 
-pub(crate) fn giver_place(tag: Tag, places: &[usize; 13]) -> usize
+pub(crate) fn giver_place(tag: Tag, places: &[usize; Tag::LIMIT]) -> usize
     ensures { λ r. ⌜ r ≡ placeIn (now (places .entry)) (tag .0) ⌝ }
 {
     let t = tag.0;

@@ -3,7 +3,7 @@ mod givers;
 mod row_rules;
 mod slot_rules;
 
-use machine_parts::parts::Machine;
+use machine_parts::Machine;
 use words::Areas;
 use words::check_list_against;
 use words::refusal;

@@ -1,21 +1,21 @@
 // Good order, one test a slot: all of 01's rules for it at once.
 use crate::givers;
-use machine_parts::parts::Buffer;
-use machine_parts::parts::BufferState;
-use machine_parts::parts::Operand;
-use machine_parts::parts::Register;
-use machine_parts::parts::Station;
-use machine_parts::parts::StationState;
-use machine_parts::parts::StoreBuffer;
-use machine_parts::parts::StoreState;
-use machine_parts::parts::Tag;
+use machine_parts::Buffer;
+use machine_parts::BufferState;
+use machine_parts::Operand;
+use machine_parts::Register;
+use machine_parts::Station;
+use machine_parts::StationState;
+use machine_parts::StoreBuffer;
+use machine_parts::StoreState;
+use machine_parts::Tag;
 ghost use mathlib.Core.Path.{_≡_};
 ghost use Rattle.words.specs.Instructions.{isCell};
 ghost use Rattle.machine_parts.specs.View.{viewOperand, viewRegister, viewBuffer, viewStation, viewStore};
 ghost use Rattle.good_order.specs.SlotRules.{placeIn, registerGood, operandGood, bufferGood, stationGood, storeGood, cellsApart};
 
 // A register's tag has a giver, of whatever place.
-pub(crate) fn register_good(register: Register, places: &[usize; 13]) -> bool
+pub(crate) fn register_good(register: Register, places: &[usize; Tag::LIMIT]) -> bool
     ensures { λ r. ⌜ r ≡ registerGood (placeIn (now (places .entry))) (viewRegister register) ⌝ }
 {
     let operand = register.operand;
@@ -26,7 +26,7 @@ pub(crate) fn register_good(register: Register, places: &[usize; 13]) -> bool
 }
 
 // An operand that is held at a place: of a buffer of place at most that, or of a station of place below it.
-fn operand_good(operand: Operand, place: usize, places: &[usize; 13]) -> bool
+fn operand_good(operand: Operand, place: usize, places: &[usize; Tag::LIMIT]) -> bool
     ensures { λ r. ⌜ r ≡ operandGood (placeIn (now (places .entry))) place (viewOperand operand) ⌝ }
 {
     match operand {
@@ -62,7 +62,7 @@ pub(crate) fn buffer_good(buffer: Buffer, next: usize, operands: usize) -> bool
             }
             false
         }
-        BufferState::Full(held) => held.place < next,
+        BufferState::Full(fetched) => fetched.place < next,
     }
 }
 
@@ -70,7 +70,7 @@ pub(crate) fn station_good(
     station: Station,
     index: usize,
     next: usize,
-    places: &[usize; 13],
+    places: &[usize; Tag::LIMIT],
 ) -> bool
     ensures { λ r. ⌜ r ≡ stationGood (placeIn (now (places .entry))) next index (viewStation station) ⌝ }
 {
@@ -91,7 +91,7 @@ pub(crate) fn station_good(
             }
             false
         }
-        StationState::Done(held) => held.place < next,
+        StationState::Done(worked) => worked.place < next,
     }
 }
 
@@ -99,7 +99,7 @@ pub(crate) fn store_good(
     store: StoreBuffer,
     next: usize,
     results: usize,
-    places: &[usize; 13],
+    places: &[usize; Tag::LIMIT],
 ) -> bool
     ensures { λ r. ⌜ r ≡ storeGood (placeIn (now (places .entry))) next results (viewStore store) ⌝ }
 {

@@ -22,8 +22,8 @@ use Rattle.theory_machine.specs.Asked.{written}
 use Rattle.theory_machine.proofs.Checks.{list-passed, order-passed}
 use Rattle.theory_machine.proofs.Words.{passes}
 use Rattle.theory_run.specs.Run.{ScheduleRun, run, notBegun, unlogged, loggedOver}
-use Rattle.machine_parts.specs.declared.parts.Machine.{Machine}
-use Rattle.machine_parts.specs.declared.parts.Record.{Record}
+use Rattle.machine_parts.specs.declared.Machine.{Machine}
+use Rattle.machine_parts.specs.declared.Record.{Record}
 use Rattle.machine_parts.specs.View.{view, viewRecord, lent}
 use Rattle.machine_parts.specs.Back.{recordOf}
 use Rattle.machine_parts.proofs.Exact.{forth}

@@ -5,8 +5,8 @@ use Prim.Native.Nat.{ℕ}
 use lib.Ieee.{Float}
 use denote.Ref.{now}
 use Rattle.numbers.proofs.Determined.{DeterminesLent, one-answer}
-use Rattle.machine_parts.specs.declared.parts.Machine.{Machine}
-use Rattle.machine_parts.specs.declared.parts.Record.{Record}
+use Rattle.machine_parts.specs.declared.Machine.{Machine}
+use Rattle.machine_parts.specs.declared.Record.{Record}
 use Rattle.machine_parts.proofs.Exact.{view-exact, records-exact}
 use Rattle.machine_steps.specs.declared.advance.Progress.{Progress}
 use Rattle.lent_run.specs.Run.{RunAnswer}

@@ -5,11 +5,11 @@ use package.mir.Val.{Val}
 use denote.Laws.{Is}
 use denote.Struct.Laws as LL
 use Rattle.theory_machine.specs.Machine.{Shape}
-use Rattle.machine_parts.specs.declared.parts.Machine.{Machine}
+use Rattle.machine_parts.specs.declared.Machine.{Machine}
 use Rattle.machine_parts.specs.View.{view}
 use Rattle.machine_parts.proofs.Whole.{whole}
-use Rattle.machine_parts.proofs.parts.Machine as N
-use Rattle.machine_parts.proofs.parts.Machine.Laws as N′
+use Rattle.machine_parts.proofs.Machine as N
+use Rattle.machine_parts.proofs.Machine.Laws as N′
 
 pub shaped : (m : Machine) (vs : List Val) → Is N.the-row m vs → Shape (view m)
 shaped m vs is =

@@ -6,8 +6,8 @@ use mathlib.Core.Bool.{Bool, true, false}
 use mathlib.Core.List.{List}
 use lib.ListN.{length, set}
 use lib.Ieee.{Float}
-use Rattle.machine_parts.specs.declared.parts.Machine.{Machine}
-use Rattle.machine_parts.specs.declared.parts.Record.{Record}
+use Rattle.machine_parts.specs.declared.Machine.{Machine}
+use Rattle.machine_parts.specs.declared.Record.{Record}
 use Rattle.machine_steps.specs.declared.advance.Progress.{Progress}
 use Rattle.machine_steps.specs.declared.advance.Stop.{Stop}
 use Rattle.machine_steps.specs.Advance.{beginning, advanced, cellsAfter}

@@ -7,10 +7,14 @@ use lib.Ieee.{Float}
 use lib.ListN.{length}
 use Rattle.theory_machine.specs.Binary64.{binary64}
 use Rattle.theory_run.specs.Run.{ScheduleRun, run, loggedOver}
-use Rattle.machine_parts.specs.declared.parts.Machine.{Machine}
-use Rattle.machine_parts.specs.declared.parts.Record.{Record}
+use Rattle.machine_parts.specs.declared.Machine.{Machine}
+use Rattle.machine_parts.specs.declared.Record.{Record}
 use Rattle.machine_parts.specs.View.{view, viewRecord, lent}
 use Rattle.machine_steps.specs.declared.advance.Progress.{Progress}
+
+-- a log by value: the report's, "The log has 2,048 records."
+abbrev pub logRoom : ℕ
+logRoom = 2048
 
 -- r shows the run w, and cells′ and log′ are what w leaves of the result cells and of the log that was given.
 -- 01: "Answer: steps done, byte place of the refused code (or the length), refusal, records written"; "later records are untouched"

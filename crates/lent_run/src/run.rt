@@ -1,6 +1,6 @@
 // A run of a schedule. Crate machine_steps goes on from release to release; the thin writer stores each record in the lent log.
-use machine_parts::parts::Machine;
-use machine_parts::parts::Record;
+use machine_parts::Machine;
+use machine_parts::Record;
 use machine_steps::advance::Progress;
 use machine_steps::advance::advance;
 use machine_steps::advance::begun;
@@ -46,10 +46,13 @@ pub fn run_schedule(
     r
 }
 
+// "The log has 2,048 records."
+pub const LOG_ROOM: usize = 2048;
+
 // What a run by value answers: the run, and the log with its records.
 pub struct Logged {
     pub run: Progress,
-    pub log: [Record; 2048],
+    pub log: [Record; LOG_ROOM],
 }
 
 // A run whose log is an array of the caller's own, by value.
@@ -59,7 +62,7 @@ pub fn run_logged(
     operands: &[f64],
     results: &mut [f64],
     schedule: &[u8],
-    log: [Record; 2048],
+    log: [Record; LOG_ROOM],
 ) -> Logged
     ensures { λ y. ⌜ RunAnswer (now (words .entry)) (now (operands .entry)) m (now (results .entry)) (now (schedule .entry)) log (y .run) (now (results .exit)) (y .log) ⌝ }
 {

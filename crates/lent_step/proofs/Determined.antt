@@ -5,7 +5,7 @@ use Prim.Native.Nat.{ℕ}
 use lib.Ieee.{Float}
 use denote.Ref.{now}
 use Rattle.numbers.proofs.Determined.{DeterminesLent, one-answer}
-use Rattle.machine_parts.specs.declared.parts.Machine.{Machine}
+use Rattle.machine_parts.specs.declared.Machine.{Machine}
 use Rattle.machine_parts.proofs.Exact.{view-exact}
 use Rattle.lent_step.specs.InPlace.{InPlace}
 use Rattle.lent_step.proofs.step_by_place.Kinds as step-by-place-kinds

@@ -8,8 +8,8 @@ use Rattle.theory_machine.specs.Issue.{Answer}
 use Rattle.theory_machine.specs.Asked.{written}
 use Rattle.theory_machine.specs.Binary64.{binary64}
 use Rattle.theory_machine.proofs.Theorems.{refusedChangesNothing}
-use Rattle.machine_parts.specs.declared.parts.Machine.{Machine}
-use Rattle.machine_parts.specs.declared.parts.Stepped.{Stepped}
+use Rattle.machine_parts.specs.declared.Machine.{Machine}
+use Rattle.machine_parts.specs.declared.Stepped.{Stepped}
 use Rattle.machine_parts.specs.View.{view, lent}
 use Rattle.machine_parts.proofs.Exact.{view-exact}
 use Rattle.machine_steps.specs.Step.{StepAnswer}

@@ -7,7 +7,7 @@ use Rattle.theory_machine.specs.Binary64.{binary64}
 use Rattle.theory_machine.specs.Issue.{Answer}
 use Rattle.theory_machine.specs.Steps.{step}
 use Rattle.theory_machine.specs.Asked.{written}
-use Rattle.machine_parts.specs.declared.parts.Machine.{Machine}
+use Rattle.machine_parts.specs.declared.Machine.{Machine}
 use Rattle.machine_parts.specs.View.{view, lent}
 
 -- the step's answer on paper

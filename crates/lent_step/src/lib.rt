@@ -1,5 +1,5 @@
 // One step of the caller's own machine. The step itself is crate machine_steps's, by value.
-use machine_parts::parts::Machine;
+use machine_parts::Machine;
 use machine_steps::step::step;
 ghost use Rattle.lent_step.specs.InPlace.{InPlace};
 

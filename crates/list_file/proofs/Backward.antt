@@ -10,7 +10,7 @@ use borrow.Author.Tests.{ltb-true, ltb-false, eqb-true, eqb-false}
 use Rattle.seven_bit.specs.SevenBits.{Groups, whole, broken, numberIn, bytesOf}
 use Rattle.list_file.specs.RoundTrip.{Bytes}
 use Rattle.seven_bit.proofs.Groups.{one-byte, cut-after-one, zero-second, two-bytes, cut-after-two, zero-third, three-bytes, large-third}
-use Rattle.list_file.proofs.Shortest.{bytes-one, bytes-two, bytes-three}
+use Rattle.seven_bit.proofs.Shortest.{bytes-one, bytes-two, bytes-three}
 
 -- bytes that give a number are that number's, and then the rest
 pub record Shortest (bytes : List ℕ) (value size : ℕ) : Type 0 where

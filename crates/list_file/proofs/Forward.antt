@@ -20,7 +20,7 @@ use Rattle.list_file.specs.Reading.{fieldAt, operandAt, r1At, wordAt, wo
 use Rattle.list_file.specs.Writing.{wordBytes, wordsBytes}
 use Rattle.seven_bit.proofs.Groups.{one-byte, two-bytes, three-bytes}
 use Rattle.list_file.proofs.Laid.{word-size}
-use Rattle.list_file.proofs.Shortest.{bytes-one, bytes-two, bytes-three}
+use Rattle.seven_bit.proofs.Shortest.{bytes-one, bytes-two, bytes-three}
 
 -- a number's bytes, whatever follows them
 pub number-back : (v : ℕ) (rest : List ℕ) → v ≤ 65535 → numberIn (bytesOf v ++ rest) ≡ whole v (length (bytesOf v))

@@ -10,7 +10,7 @@ use Rattle.words.specs.Instructions.{operationField, r1Field, operandField}
 use Rattle.seven_bit.specs.SevenBits.{bytesOf}
 use Rattle.list_file.specs.Writing.{wordBytes, wordsBytes, fileOf}
 use Rattle.seven_bit.proofs.Peel.{peel-one}
-use Rattle.list_file.proofs.Shortest.{few-bytes}
+use Rattle.seven_bit.proofs.Shortest.{few-bytes}
 
 pub sets-append : {A : Type 0} (l : List A) (i : ℕ) (xs ys : List A) → sets l i (xs ++ ys) ≡ sets (sets l i xs) (i + length xs) ys
 sets-append l i [] ys = rw (add-zero i)

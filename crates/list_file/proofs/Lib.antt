@@ -7,7 +7,6 @@ pub mod Measured
 pub mod Passed
 pub mod Refusals
 pub mod RoundTrip
-pub mod Shortest
 pub mod Was
 pub mod Words
 pub mod Wrote

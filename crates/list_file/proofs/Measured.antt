@@ -12,7 +12,7 @@ use Rattle.seven_bit.specs.SevenBits.{bytesOf}
 use Rattle.list_file.specs.Writing.{wordBytes, wordsBytes, fileOf}
 use Rattle.list_file.specs.Passes.{Measuring}
 use Rattle.list_file.proofs.Laid.{words-next, nine-bytes}
-use Rattle.list_file.proofs.Shortest.{few-bytes}
+use Rattle.seven_bit.proofs.Shortest.{few-bytes}
 
 pub record Sizing (list : List ℕ) (size place : ℕ) : Type 0 where
   pub within : place ≤ length list

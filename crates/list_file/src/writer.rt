@@ -1,45 +1,22 @@
 // The writer: one pass checks the list and measures its file, one stores it.
 use crate::Written;
+use seven_bit::number_size;
 use words::LIST_LIMIT;
 use words::NO_AREAS;
 use words::refusal;
 ghost use mathlib.Core.Path.{_≡_};
-ghost use Prim.Native.Nat.{_+_, _%_, _≤_, _<_};
+ghost use Prim.Native.Nat.{_+_, _≤_, _<_};
 ghost use lib.ListN.{length};
 ghost use lib.Seq.{sets};
-ghost use Rattle.seven_bit.specs.SevenBits.{groupSize, groupOf, bytesOf};
+ghost use Rattle.seven_bit.specs.SevenBits.{bytesOf};
 ghost use Rattle.list_file.specs.Writing.{wordBytes, wordsBytes, writeAnswer, writeBytes};
 ghost use Rattle.list_file.specs.Passes.{Measuring};
-
-// Where another group follows.
-const FOLLOWS: u32 = 0x80;
-
-const GROUP: u32 = 0x7F;
 
 // What the first pass finds: the list check's answer, and the file's length if that is 0.
 struct Measured {
     refusal: u32,
     place: usize,
     length: usize,
-}
-
-// A group that another follows.
-fn following(value: u32) -> u8
-    ensures { λ r. ⌜ r ≡ groupSize + groupOf value ⌝ }
-{
-    ((value & GROUP) | FOLLOWS) as u8
-}
-
-fn number_size(value: u32) -> usize
-    ensures { λ r. ⌜ r ≡ length (bytesOf value) ⌝ }
-{
-    if value < 128 {
-        return 1;
-    }
-    if value < 16384 {
-        return 2;
-    }
-    3
 }
 
 fn word_size(word: u32) -> usize
@@ -49,24 +26,12 @@ fn word_size(word: u32) -> usize
         + (number_size(words::r1_of(word)) + number_size(words::operand_of(word)))
 }
 
-// Stores a number at a place, and answers the place after it.
+// A number that is known to fit, and to have room.
 fn put_number(value: u32, bytes: &mut [u8], at: usize) -> usize
     requires { ⌜ (value < 65536) × (at + length (bytesOf value) ≤ length (now bytes)) ⌝ }
     ensures { λ r. ⌜ (r ≡ at + length (bytesOf value)) × (now (bytes .exit) ≡ sets (now (bytes .entry)) at (bytesOf value)) ⌝ }
 {
-    if value < 128 {
-        bytes[at] = value as u8;
-        return at + 1;
-    }
-    bytes[at] = following(value);
-    let second = value >> 7;
-    if second < 128 {
-        bytes[at + 1] = second as u8;
-        return at + 2;
-    }
-    bytes[at + 1] = following(second);
-    bytes[at + 2] = (second >> 7) as u8;
-    at + 3
+    seven_bit::put_number(value, bytes, at)
 }
 
 fn put_word(word: u32, bytes: &mut [u8], at: usize) -> usize

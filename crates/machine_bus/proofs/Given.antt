@@ -14,10 +14,10 @@ use Rattle.theory_machine.specs.Steps.{give, giveStation, giveStore, granted}
 use Rattle.machine_parts.specs.Altered.{putRegister, putStation, putStore}
 use Rattle.machine_parts.specs.View.{view, viewRegister, viewStation, viewStore}
 use Rattle.machine_bus.specs.Bus.{waitsFor, stationWaits, storeWaits}
-use Rattle.machine_parts.specs.declared.parts.Machine.{Machine}
-use Rattle.machine_parts.specs.declared.parts.Register.{Register}
-use Rattle.machine_parts.specs.declared.parts.Station.{Station}
-use Rattle.machine_parts.specs.declared.parts.StoreBuffer.{StoreBuffer}
+use Rattle.machine_parts.specs.declared.Machine.{Machine}
+use Rattle.machine_parts.specs.declared.Register.{Register}
+use Rattle.machine_parts.specs.declared.Station.{Station}
+use Rattle.machine_parts.specs.declared.StoreBuffer.{StoreBuffer}
 use Rattle.machine_parts.proofs.Seen.{map-set}
 
 -- ONE SLOT

@@ -1,13 +1,13 @@
 // One slot at a time: whether it waits for a tag, and what it becomes.
-use machine_parts::parts::Operand;
-use machine_parts::parts::Pending;
-use machine_parts::parts::Register;
-use machine_parts::parts::Station;
-use machine_parts::parts::StationState;
-use machine_parts::parts::StoreBuffer;
-use machine_parts::parts::StoreState;
-use machine_parts::parts::Tag;
-use machine_parts::parts::Work;
+use machine_parts::Operand;
+use machine_parts::Pending;
+use machine_parts::Register;
+use machine_parts::Station;
+use machine_parts::StationState;
+use machine_parts::StoreBuffer;
+use machine_parts::StoreState;
+use machine_parts::Tag;
+use machine_parts::Work;
 ghost use mathlib.Core.Path.{_≡_};
 ghost use Rattle.theory_machine.specs.Steps.{give, giveStation, giveStore};
 ghost use Rattle.machine_parts.specs.View.{viewOperand, viewRegister, viewStation, viewStore};

@@ -9,15 +9,15 @@ use Rattle.theory_machine.specs.Machine.{num, freeBuffer, freeStation, freeStor
 use Rattle.theory_machine.specs.GoodOrder.{hasCell}
 use Rattle.machine_parts.specs.View.{viewRegister, viewBuffer, viewBufferState, viewStation, viewStationState, viewStore, viewStoreState}
 use Rattle.machine_free.specs.Free.{cellLiveIn}
-use Rattle.machine_parts.specs.declared.parts.Buffer.{Buffer}
-use Rattle.machine_parts.specs.declared.parts.BufferState.{BufferState}
-use Rattle.machine_parts.specs.declared.parts.BufferState.the-variants as buffer
-use Rattle.machine_parts.specs.declared.parts.Station.{Station}
-use Rattle.machine_parts.specs.declared.parts.StationState.{StationState}
-use Rattle.machine_parts.specs.declared.parts.StationState.the-variants as station
-use Rattle.machine_parts.specs.declared.parts.StoreBuffer.{StoreBuffer}
-use Rattle.machine_parts.specs.declared.parts.StoreState.{StoreState}
-use Rattle.machine_parts.specs.declared.parts.StoreState.the-variants as store
+use Rattle.machine_parts.specs.declared.Buffer.{Buffer}
+use Rattle.machine_parts.specs.declared.BufferState.{BufferState}
+use Rattle.machine_parts.specs.declared.BufferState.the-variants as buffer
+use Rattle.machine_parts.specs.declared.Station.{Station}
+use Rattle.machine_parts.specs.declared.StationState.{StationState}
+use Rattle.machine_parts.specs.declared.StationState.the-variants as station
+use Rattle.machine_parts.specs.declared.StoreBuffer.{StoreBuffer}
+use Rattle.machine_parts.specs.declared.StoreState.{StoreState}
+use Rattle.machine_parts.specs.declared.StoreState.the-variants as store
 use Rattle.machine_parts.proofs.Seen.{seen}
 
 pub buffer-seen : (bs : List Buffer) (i : ℕ) {s : BufferState} → getD bs i (record { state = buffer.Free }) .state ≡ s

@@ -1,11 +1,11 @@
 // "Issue, always using the lowest-numbered free one": the finders.
-use machine_parts::parts::Buffer;
-use machine_parts::parts::BufferState;
-use machine_parts::parts::Station;
-use machine_parts::parts::StationState;
-use machine_parts::parts::StoreBuffer;
-use machine_parts::parts::StoreState;
-use machine_parts::parts::Tag;
+use machine_parts::Buffer;
+use machine_parts::BufferState;
+use machine_parts::Station;
+use machine_parts::StationState;
+use machine_parts::StoreBuffer;
+use machine_parts::StoreState;
+use machine_parts::Tag;
 use numbers::Operation;
 ghost use mathlib.Core.Path.{_≡_};
 ghost use mathlib.Core.Bool.{_&&_};
@@ -34,7 +34,7 @@ fn buffer_free(b: Buffer) -> bool
     }
 }
 
-pub fn lowest_buffer(bs: [Buffer; 6]) -> FreeSlot
+pub fn lowest_buffer(bs: [Buffer; Tag::BUFFERS]) -> FreeSlot
     ensures { λ r. ⌜ viewFreeSlot r ≡ lowestBufferIn (map viewBuffer bs) ⌝ }
 {
     for i in 0..bs.len() {
@@ -67,7 +67,7 @@ fn station_serves(s: Station, i: usize, o: Operation) -> bool
     false
 }
 
-pub fn lowest_station(ss: [Station; 5], o: Operation) -> FreeSlot
+pub fn lowest_station(ss: [Station; Tag::STATIONS], o: Operation) -> FreeSlot
     ensures { λ r. ⌜ viewFreeSlot r ≡ lowestStationIn (map viewStation ss) o ⌝ }
 {
     for i in 0..ss.len() {
@@ -88,7 +88,7 @@ fn store_free(s: StoreBuffer) -> bool
     }
 }
 
-pub fn lowest_store(ts: [StoreBuffer; 3]) -> FreeSlot
+pub fn lowest_store(ts: [StoreBuffer; StoreBuffer::COUNT]) -> FreeSlot
     ensures { λ r. ⌜ viewFreeSlot r ≡ lowestStoreIn (map viewStore ts) ⌝ }
 {
     for i in 0..ts.len() {
@@ -110,7 +110,7 @@ fn store_has(s: StoreBuffer, cell: usize) -> bool
 }
 
 // Whether some live store buffer has the cell.
-pub fn cell_live(ts: [StoreBuffer; 3], cell: usize) -> bool
+pub fn cell_live(ts: [StoreBuffer; StoreBuffer::COUNT], cell: usize) -> bool
     ensures { λ r. ⌜ r ≡ cellLiveIn (map viewStore ts) cell ⌝ }
 {
     if store_has(ts[0], cell) {

@@ -8,15 +8,15 @@ use Rattle.machine_parts.specs.Answers.{viewFresh}
 use Rattle.machine_parts.proofs.Exact.{view-exact}
 use Rattle.machine_parts.proofs.start.fresh.Kinds as fresh-kinds
 use Rattle.machine_parts.proofs.start.fresh.Reads as fresh-reads
-use Rattle.machine_parts.proofs.parts.Tag.suits.Kinds as suits-kinds
-use Rattle.machine_parts.proofs.parts.Tag.suits.Reads as suits-reads
-use Rattle.machine_parts.proofs.parts.Tag.of_buffer.Kinds as of-buffer-kinds
-use Rattle.machine_parts.proofs.parts.Tag.of_buffer.Reads as of-buffer-reads
-use Rattle.machine_parts.proofs.parts.Tag.of_station.Kinds as of-station-kinds
-use Rattle.machine_parts.proofs.parts.Tag.of_station.Reads as of-station-reads
-use Rattle.machine_parts.proofs.parts.Register.index_of.Kinds as index-of-kinds
-use Rattle.machine_parts.proofs.parts.Register.index_of.Reads as index-of-reads
-use Rattle.machine_parts.specs.declared.parts.Tag.{Tag}
+use Rattle.machine_parts.proofs.Tag.suits.Kinds as suits-kinds
+use Rattle.machine_parts.proofs.Tag.suits.Reads as suits-reads
+use Rattle.machine_parts.proofs.Tag.of_buffer.Kinds as of-buffer-kinds
+use Rattle.machine_parts.proofs.Tag.of_buffer.Reads as of-buffer-reads
+use Rattle.machine_parts.proofs.Tag.of_station.Kinds as of-station-kinds
+use Rattle.machine_parts.proofs.Tag.of_station.Reads as of-station-reads
+use Rattle.machine_parts.proofs.Register.index_of.Kinds as index-of-kinds
+use Rattle.machine_parts.proofs.Register.index_of.Reads as index-of-reads
+use Rattle.machine_parts.specs.declared.Tag.{Tag}
 use Prim.Native.Nat.{ℕ}
 
 fresh-exact : (x y : FreshMachine) → viewFresh x ≡ viewFresh y → x ≡ y

@@ -3,7 +3,7 @@ use mathlib.Core.Path.{_≡_, _∙_}
 use lib.ListN.{length, length-map}
 use Rattle.theory_machine.specs.Tags.{registerCount, bufferCount, stationCount, storeCount}
 use Rattle.theory_machine.specs.Machine.{Shape}
-use Rattle.machine_parts.specs.declared.parts.Machine.{Machine}
+use Rattle.machine_parts.specs.declared.Machine.{Machine}
 use Rattle.machine_parts.specs.View.{viewRegister, viewBuffer, viewStation, viewStore, view}
 
 pub whole : (m : Machine) → length (m .registers) ≡ registerCount → length (m .buffers) ≡ bufferCount → length (m .stations) ≡ stationCount

@@ -2,11 +2,11 @@
 use mathlib.Core.List.{List}
 use Prim.Native.Nat.{ℕ, _+_}
 use lib.ListN.{set}
-use Rattle.machine_parts.specs.declared.parts.Register.{Register}
-use Rattle.machine_parts.specs.declared.parts.Buffer.{Buffer}
-use Rattle.machine_parts.specs.declared.parts.Station.{Station}
-use Rattle.machine_parts.specs.declared.parts.StoreBuffer.{StoreBuffer}
-use Rattle.machine_parts.specs.declared.parts.Machine.{Machine}
+use Rattle.machine_parts.specs.declared.Register.{Register}
+use Rattle.machine_parts.specs.declared.Buffer.{Buffer}
+use Rattle.machine_parts.specs.declared.Station.{Station}
+use Rattle.machine_parts.specs.declared.StoreBuffer.{StoreBuffer}
+use Rattle.machine_parts.specs.declared.Machine.{Machine}
 
 abbrev pub standing : (next : ℕ) → List Register → List Buffer → List Station → List StoreBuffer → Machine
 standing next rs bs ss ts = record { next = next; registers = rs; buffers = bs; stations = ss; stores = ts }

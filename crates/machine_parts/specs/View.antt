@@ -7,24 +7,24 @@ use lib.ListN.{length}
 use Rattle.theory_machine.specs.Machine as theory
 use Rattle.theory_machine.specs.Machine.{num, tag, freeBuffer, waiting, full, freeStation, holding, done, freeStore, live, Lent, standing}
 use Rattle.theory_machine.specs.Issue.{Answer}
-use Rattle.machine_parts.specs.declared.parts.Tag.{Tag}
-use Rattle.machine_parts.specs.declared.parts.Operand.{Operand}
-use Rattle.machine_parts.specs.declared.parts.Operand.the-variants.{Number, Waits}
-use Rattle.machine_parts.specs.declared.parts.Register.{Register}
-use Rattle.machine_parts.specs.declared.parts.BufferState.{BufferState}
-use Rattle.machine_parts.specs.declared.parts.BufferState.the-variants as buffer
-use Rattle.machine_parts.specs.declared.parts.Buffer.{Buffer}
-use Rattle.machine_parts.specs.declared.parts.StationState.{StationState}
-use Rattle.machine_parts.specs.declared.parts.StationState.the-variants as station
-use Rattle.machine_parts.specs.declared.parts.Station.{Station}
-use Rattle.machine_parts.specs.declared.parts.StoreState.{StoreState}
-use Rattle.machine_parts.specs.declared.parts.StoreState.the-variants as store
-use Rattle.machine_parts.specs.declared.parts.StoreBuffer.{StoreBuffer}
-use Rattle.machine_parts.specs.declared.parts.Machine.{Machine}
-use Rattle.machine_parts.specs.declared.parts.Record.{Record}
-use Rattle.machine_parts.specs.declared.parts.Released.{Released}
-use Rattle.machine_parts.specs.declared.parts.Released.the-variants.{Nothing, One}
-use Rattle.machine_parts.specs.declared.parts.Stepped.{Stepped}
+use Rattle.machine_parts.specs.declared.Tag.{Tag}
+use Rattle.machine_parts.specs.declared.Operand.{Operand}
+use Rattle.machine_parts.specs.declared.Operand.the-variants.{Number, Waits}
+use Rattle.machine_parts.specs.declared.Register.{Register}
+use Rattle.machine_parts.specs.declared.BufferState.{BufferState}
+use Rattle.machine_parts.specs.declared.BufferState.the-variants as buffer
+use Rattle.machine_parts.specs.declared.Buffer.{Buffer}
+use Rattle.machine_parts.specs.declared.StationState.{StationState}
+use Rattle.machine_parts.specs.declared.StationState.the-variants as station
+use Rattle.machine_parts.specs.declared.Station.{Station}
+use Rattle.machine_parts.specs.declared.StoreState.{StoreState}
+use Rattle.machine_parts.specs.declared.StoreState.the-variants as store
+use Rattle.machine_parts.specs.declared.StoreBuffer.{StoreBuffer}
+use Rattle.machine_parts.specs.declared.Machine.{Machine}
+use Rattle.machine_parts.specs.declared.Record.{Record}
+use Rattle.machine_parts.specs.declared.Released.{Released}
+use Rattle.machine_parts.specs.declared.Released.the-variants.{Nothing, One}
+use Rattle.machine_parts.specs.declared.Stepped.{Stepped}
 
 abbrev pub viewOperand : Operand → theory.Operand Float
 viewOperand (Number x) = num x

@@ -1,13 +1,14 @@
 // A fresh machine (01, "Refusal numbers").
-use crate::parts::Buffer;
-use crate::parts::BufferState;
-use crate::parts::Machine;
-use crate::parts::Operand;
-use crate::parts::Register;
-use crate::parts::Station;
-use crate::parts::StationState;
-use crate::parts::StoreBuffer;
-use crate::parts::StoreState;
+use crate::Buffer;
+use crate::BufferState;
+use crate::Machine;
+use crate::Operand;
+use crate::Register;
+use crate::Station;
+use crate::StationState;
+use crate::StoreBuffer;
+use crate::StoreState;
+use crate::Tag;
 use words::Areas;
 use words::check_list_against;
 use words::refusal;
@@ -24,7 +25,7 @@ pub struct FreshMachine {
 }
 
 // At place 0 with nothing live.
-fn empty_machine(numbers: [f64; 4]) -> Machine
+fn empty_machine(numbers: [f64; Register::COUNT]) -> Machine
     ensures { λ r. ⌜ view r ≡ emptyMachine numbers ⌝ }
 {
     Machine {
@@ -45,18 +46,23 @@ fn empty_machine(numbers: [f64; 4]) -> Machine
         ],
         buffers: [Buffer {
             state: BufferState::Free,
-        }; 6],
+        }; Tag::BUFFERS],
         stations: [Station {
             state: StationState::Free,
-        }; 5],
+        }; Tag::STATIONS],
         stores: [StoreBuffer {
             state: StoreState::Free,
-        }; 3],
+        }; StoreBuffer::COUNT],
     }
 }
 
 // 01: refused, a machine at place 0 with nothing live and all registers +0.
-pub fn fresh(words: &[u32], operands: &[f64], results: &[f64], starts: [f64; 4]) -> FreshMachine
+pub fn fresh(
+    words: &[u32],
+    operands: &[f64],
+    results: &[f64],
+    starts: [f64; Register::COUNT],
+) -> FreshMachine
     ensures { λ r. ⌜ viewFresh r ≡ fresh binary64 (lent (now (words .entry)) (now (operands .entry)) (now (results .entry))) starts ⌝ }
 {
     let refused = check_list_against(
@@ -68,7 +74,7 @@ pub fn fresh(words: &[u32], operands: &[f64], results: &[f64], starts: [f64; 4])
     ).refusal;
     if refused != 0 {
         return FreshMachine {
-            machine: empty_machine([0.0; 4]),
+            machine: empty_machine([0.0; Register::COUNT]),
             refusal: refused,
         };
     }

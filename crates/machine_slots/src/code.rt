@@ -1,5 +1,6 @@
 // The step codes of 01, named once, and a code read.
-use machine_parts::parts::Tag;
+use machine_parts::StoreBuffer;
+use machine_parts::Tag;
 ghost use mathlib.Core.Path.{_≡_};
 ghost use Rattle.machine_slots.specs.Slots.{ReadsAs};
 
@@ -13,11 +14,6 @@ const COMPLETION: u32 = 32;
 const GRANT: u32 = 48;
 
 const RELEASE: u32 = 64;
-
-// "Store buffers are 1 to 3 and have no tag."
-const FIRST_STORE: u32 = 1;
-
-const LAST_STORE: u32 = 3;
 
 const FIRST_ARRIVAL: u32 = ARRIVAL + Tag::FIRST_BUFFER as u32;
 
@@ -35,9 +31,9 @@ const FIRST_STATION_GRANT: u32 = GRANT + Tag::FIRST_STATION as u32;
 
 const LAST_STATION_GRANT: u32 = GRANT + Tag::LAST_STATION as u32;
 
-const FIRST_RELEASE: u32 = RELEASE + FIRST_STORE;
+const FIRST_RELEASE: u32 = RELEASE + StoreBuffer::FIRST as u32;
 
-const LAST_RELEASE: u32 = RELEASE + LAST_STORE;
+const LAST_RELEASE: u32 = RELEASE + StoreBuffer::LAST as u32;
 
 // Every known code is below this.
 pub const CODE_LIMIT: u32 = LAST_RELEASE + 1;

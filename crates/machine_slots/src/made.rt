@@ -1,17 +1,18 @@
 // What a slot becomes.
-use machine_parts::parts::Buffer;
-use machine_parts::parts::BufferState;
-use machine_parts::parts::Fetch;
-use machine_parts::parts::Held;
-use machine_parts::parts::Operand;
-use machine_parts::parts::Pending;
-use machine_parts::parts::Register;
-use machine_parts::parts::Station;
-use machine_parts::parts::StationState;
-use machine_parts::parts::StoreBuffer;
-use machine_parts::parts::StoreState;
-use machine_parts::parts::Tag;
-use machine_parts::parts::Work;
+use machine_parts::Buffer;
+use machine_parts::BufferState;
+use machine_parts::Fetch;
+use machine_parts::Fetched;
+use machine_parts::Operand;
+use machine_parts::Pending;
+use machine_parts::Register;
+use machine_parts::Station;
+use machine_parts::StationState;
+use machine_parts::StoreBuffer;
+use machine_parts::StoreState;
+use machine_parts::Tag;
+use machine_parts::Work;
+use machine_parts::Worked;
 use numbers::Operation;
 ghost use mathlib.Core.Path.{_≡_};
 ghost use Rattle.theory_machine.specs.Machine.{tag, freeBuffer, waiting, full, freeStation, holding, done, freeStore, live};
@@ -41,11 +42,11 @@ pub fn fetching(place: usize, cell: usize) -> Buffer
     }
 }
 
-pub fn full(held: Held) -> Buffer
-    ensures { λ r. ⌜ viewBuffer r ≡ full (held .place) (held .number) ⌝ }
+pub fn full(fetched: Fetched) -> Buffer
+    ensures { λ r. ⌜ viewBuffer r ≡ full (fetched .place) (fetched .number) ⌝ }
 {
     Buffer {
-        state: BufferState::Full(held),
+        state: BufferState::Full(fetched),
     }
 }
 
@@ -72,11 +73,11 @@ pub fn holding(place: usize, operation: Operation, sink: Register, source: Regis
     }
 }
 
-pub fn done(held: Held) -> Station
-    ensures { λ r. ⌜ viewStation r ≡ done (held .place) (held .number) ⌝ }
+pub fn done(worked: Worked) -> Station
+    ensures { λ r. ⌜ viewStation r ≡ done (worked .place) (worked .number) ⌝ }
 {
     Station {
-        state: StationState::Done(held),
+        state: StationState::Done(worked),
     }
 }
 

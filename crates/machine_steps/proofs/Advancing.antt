@@ -17,9 +17,9 @@ use Rattle.theory_machine.specs.Steps.{perform}
 use Rattle.theory_machine.proofs.Rows.{cond-cases}
 use Rattle.theory_machine.specs.Binary64.{binary64}
 use Rattle.theory_machine.specs.Asked.{written}
-use Rattle.machine_parts.specs.declared.parts.Machine.{Machine}
-use Rattle.machine_parts.specs.declared.parts.Record.{Record}
-use Rattle.machine_parts.specs.declared.parts.Released.the-variants.{Nothing, One}
+use Rattle.machine_parts.specs.declared.Machine.{Machine}
+use Rattle.machine_parts.specs.declared.Record.{Record}
+use Rattle.machine_parts.specs.declared.Released.the-variants.{Nothing, One}
 use Rattle.machine_parts.specs.View.{view, viewReleased, lentWith}
 use Rattle.machine_parts.specs.Back.{machineOf}
 use Rattle.machine_parts.proofs.Exact.{back}

@@ -19,7 +19,7 @@ use Rattle.theory_machine.specs.Entries.{listRefusal, Fresh, fresh}
 use Rattle.theory_machine.specs.Asked.{State, written, logged, after, ask, asked, takenOf, begin}
 use Rattle.theory_machine.specs.Statement.{Outcome}
 use Rattle.theory_machine.proofs.Theorems.{orderTheorem}
-use Rattle.machine_parts.specs.declared.parts.Stepped.{Stepped}
+use Rattle.machine_parts.specs.declared.Stepped.{Stepped}
 use Rattle.machine_parts.specs.declared.start.FreshMachine.{FreshMachine}
 use Rattle.machine_parts.specs.View.{view, viewReleased, viewStepped, lent}
 use Rattle.machine_parts.specs.Answers.{viewFresh}

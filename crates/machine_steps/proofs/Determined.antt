@@ -8,7 +8,7 @@ use Rattle.theory_machine.specs.Entries as theory
 use Rattle.machine_steps.specs.declared.lowest.Lowest.{Lowest}
 use Rattle.machine_steps.specs.declared.lowest.Lowest.the-variants.{Nothing as NoCode, Code}
 use Rattle.machine_steps.specs.declared.lowest.LowestStep.{LowestStep}
-use Rattle.machine_parts.specs.declared.parts.Stepped.{Stepped}
+use Rattle.machine_parts.specs.declared.Stepped.{Stepped}
 use Rattle.machine_parts.specs.View.{viewReleased, viewStepped}
 use Rattle.machine_steps.specs.Lowest.{viewLowest, viewLowestStep}
 use Rattle.theory_machine.specs.Issue.{Answer}

@@ -20,9 +20,9 @@ use Rattle.theory_machine.specs.Binary64.{binary64}
 use Rattle.theory_machine.specs.Codes.{unknownCode, stepOf}
 use Rattle.theory_machine.specs.Steps.{perform, inOrder, step}
 use Rattle.theory_machine.specs.Asked.{written}
-use Rattle.machine_parts.specs.declared.parts.Machine.{Machine}
-use Rattle.machine_parts.specs.declared.parts.Released.the-variants.{Nothing}
-use Rattle.machine_parts.specs.declared.parts.Stepped.{Stepped}
+use Rattle.machine_parts.specs.declared.Machine.{Machine}
+use Rattle.machine_parts.specs.declared.Released.the-variants.{Nothing}
+use Rattle.machine_parts.specs.declared.Stepped.{Stepped}
 use Rattle.machine_parts.specs.View.{view, viewReleased, viewStepped, lent}
 use Rattle.machine_steps.specs.Step.{StepAnswer}
 

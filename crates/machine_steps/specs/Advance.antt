@@ -11,8 +11,8 @@ use Rattle.theory_machine.specs.Machine as theory
 use Rattle.theory_machine.specs.Binary64.{binary64}
 use Rattle.theory_machine.specs.Entries.{refusalOfEntry}
 use Rattle.theory_machine.specs.Asked.{written}
-use Rattle.machine_parts.specs.declared.parts.Machine.{Machine}
-use Rattle.machine_parts.specs.declared.parts.Record.{Record}
+use Rattle.machine_parts.specs.declared.Machine.{Machine}
+use Rattle.machine_parts.specs.declared.Record.{Record}
 use Rattle.machine_parts.specs.View.{view, lentWith}
 use Rattle.machine_parts.specs.Back.{machineOf, recordOf}
 use Rattle.machine_steps.specs.declared.advance.Progress.{Progress}

@@ -13,8 +13,8 @@ use Rattle.theory_machine.specs.OneAtATime.{Run}
 use Rattle.theory_machine.specs.Entries.{fresh}
 use Rattle.theory_machine.specs.Asked.{State, logged, asked}
 use Rattle.theory_machine.specs.Statement.{Outcome}
-use Rattle.machine_parts.specs.declared.parts.Machine.{Machine}
-use Rattle.machine_parts.specs.declared.parts.Stepped.{Stepped}
+use Rattle.machine_parts.specs.declared.Machine.{Machine}
+use Rattle.machine_parts.specs.declared.Stepped.{Stepped}
 use Rattle.machine_parts.specs.declared.start.FreshMachine.{FreshMachine}
 use Rattle.machine_parts.specs.View.{view, viewReleased, lent}
 use Rattle.machine_parts.specs.Answers.{viewFresh}

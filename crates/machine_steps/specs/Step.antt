@@ -7,8 +7,8 @@ use Rattle.theory_machine.specs.Issue.{Answer}
 use Rattle.theory_machine.specs.Binary64.{binary64}
 use Rattle.theory_machine.specs.Steps.{step}
 use Rattle.theory_machine.specs.Asked.{written}
-use Rattle.machine_parts.specs.declared.parts.Machine.{Machine}
-use Rattle.machine_parts.specs.declared.parts.Stepped.{Stepped}
+use Rattle.machine_parts.specs.declared.Machine.{Machine}
+use Rattle.machine_parts.specs.declared.Stepped.{Stepped}
 use Rattle.machine_parts.specs.View.{view, viewReleased, viewStepped, lent}
 
 -- r is the answer of one step of machine m with this code, and cells′ the result cells after it

@@ -1,9 +1,9 @@
 // A run from release to release. The log is not here: what is released is handed to whoever keeps it.
 use crate::step::write_released;
 use good_order::entry_refusal;
-use machine_parts::parts::Machine;
-use machine_parts::parts::Record;
-use machine_parts::parts::Released;
+use machine_parts::Machine;
+use machine_parts::Record;
+use machine_parts::Released;
 use machine_take::taking::take_codes;
 use words::Areas;
 use words::refusal;

@@ -1,6 +1,6 @@
 // The lowest permitted step.
 use good_order::entry_refusal;
-use machine_parts::parts::Machine;
+use machine_parts::Machine;
 use machine_slots::code::CODE_LIMIT;
 use machine_take::taking::take_codes;
 use words::Areas;

@@ -1,8 +1,8 @@
 // One step: the entry that checks the list's length and the machine, and writes the result cell of a release.
 use good_order::in_good_order;
-use machine_parts::parts::Machine;
-use machine_parts::parts::Released;
-use machine_parts::parts::Stepped;
+use machine_parts::Machine;
+use machine_parts::Released;
+use machine_parts::Stepped;
 use machine_take::taking::take_codes;
 use words::Areas;
 use words::LIST_LIMIT;

@@ -17,15 +17,16 @@ use Rattle.theory_machine.specs.Steps.{perform, granted, giveStation}
 use Rattle.theory_machine.proofs.Tags.{SlotView, is-buffer, is-station, slot-view}
 use Rattle.machine_parts.specs.Altered.{onward, putRegister, putBuffer, putStation, putStore}
 use Rattle.machine_parts.specs.View.{viewRegister, viewBuffer, viewStation, viewStore, view, viewRecord}
-use Rattle.machine_parts.specs.declared.parts.Machine.{Machine}
-use Rattle.machine_parts.specs.declared.parts.Tag.{Tag}
-use Rattle.machine_parts.specs.declared.parts.Held.{Held}
-use Rattle.machine_parts.specs.declared.parts.Record.{Record}
-use Rattle.machine_parts.specs.declared.parts.Operand.the-variants.{Number}
-use Rattle.machine_parts.specs.declared.parts.Register.{Register}
-use Rattle.machine_parts.specs.declared.parts.Buffer.{Buffer}
-use Rattle.machine_parts.specs.declared.parts.Station.{Station}
-use Rattle.machine_parts.specs.declared.parts.StoreBuffer.{StoreBuffer}
+use Rattle.machine_parts.specs.declared.Machine.{Machine}
+use Rattle.machine_parts.specs.declared.Tag.{Tag}
+use Rattle.machine_parts.specs.declared.Fetched.{Fetched}
+use Rattle.machine_parts.specs.declared.Worked.{Worked}
+use Rattle.machine_parts.specs.declared.Record.{Record}
+use Rattle.machine_parts.specs.declared.Operand.the-variants.{Number}
+use Rattle.machine_parts.specs.declared.Register.{Register}
+use Rattle.machine_parts.specs.declared.Buffer.{Buffer}
+use Rattle.machine_parts.specs.declared.Station.{Station}
+use Rattle.machine_parts.specs.declared.StoreBuffer.{StoreBuffer}
 use Rattle.machine_parts.proofs.Seen.{map-set}
 use Rattle.machine_take.specs.declared.change.Change.{Change}
 use Rattle.machine_take.specs.declared.change.Change.the-variants.{Refused, Loads, TakesCell, Copies, TakesRegister, Stores, Arrives, Completes, Gives, Releases}
@@ -82,11 +83,11 @@ module _ {L : Lent Float} {m : Machine} {code : ℕ} {c : Change} (h : Known L m
       → Steps L m (onward (putStore m t s)) code
   stores {r} e four below s es = record { taken-is = rw (map-set, es, add-one, ← (register-seen (m .registers) r four below)) (is-change e) }
 
-  pub arrives : {b : ℕ} {held : Held} → c ≡ Arrives b held → (w : Buffer) → viewBuffer w ≡ full (held .place) (held .number)
+  pub arrives : {b : ℕ} {fetched : Fetched} → c ≡ Arrives b fetched → (w : Buffer) → viewBuffer w ≡ full (fetched .place) (fetched .number)
       → Steps L m (putBuffer m b w) code
   arrives e w ew = record { taken-is = rw (map-set, ew) (is-change e) }
 
-  pub completes : {s : ℕ} {held : Held} → c ≡ Completes s held → (x : Station) → viewStation x ≡ done (held .place) (held .number)
+  pub completes : {s : ℕ} {worked : Worked} → c ≡ Completes s worked → (x : Station) → viewStation x ≡ done (worked .place) (worked .number)
       → Steps L m (putStation m s x) code
   completes e x ex = record { taken-is = rw (map-set, ex) (is-change e) }
 

@@ -11,13 +11,13 @@ use Rattle.theory_machine.specs.Binary64.{binary64}
 use Rattle.theory_machine.specs.Issue.{Answer}
 use Rattle.theory_machine.specs.Steps.{arrive, complete, grantBuffer, grantStation, releaseStore, perform}
 use Rattle.machine_parts.specs.View.{viewRegister, viewBuffer, viewStation, viewStore, view, cellsAlone}
-use Rattle.machine_parts.specs.declared.parts.Machine.{Machine}
-use Rattle.machine_parts.specs.declared.parts.Buffer.{Buffer}
-use Rattle.machine_parts.specs.declared.parts.BufferState.the-variants as buffer
-use Rattle.machine_parts.specs.declared.parts.Station.{Station}
-use Rattle.machine_parts.specs.declared.parts.StationState.the-variants as station
-use Rattle.machine_parts.specs.declared.parts.StoreBuffer.{StoreBuffer}
-use Rattle.machine_parts.specs.declared.parts.StoreState.the-variants as store
+use Rattle.machine_parts.specs.declared.Machine.{Machine}
+use Rattle.machine_parts.specs.declared.Buffer.{Buffer}
+use Rattle.machine_parts.specs.declared.BufferState.the-variants as buffer
+use Rattle.machine_parts.specs.declared.Station.{Station}
+use Rattle.machine_parts.specs.declared.StationState.the-variants as station
+use Rattle.machine_parts.specs.declared.StoreBuffer.{StoreBuffer}
+use Rattle.machine_parts.specs.declared.StoreState.the-variants as store
 use Rattle.machine_slots.specs.declared.code.Step.{Step}
 use Rattle.machine_slots.specs.declared.code.Step.the-variants.{Unknown, Issue, Arrival, Completion, BufferGrant, StationGrant, Release}
 use Rattle.machine_take.specs.declared.change.Change.{Change}

@@ -9,7 +9,7 @@ use Rattle.theory_machine.specs.Machine.{Machine}
 use Rattle.theory_machine.specs.Issue.{Answer, refused, taken}
 use Rattle.theory_machine.specs.Tags.{bufferCount, stationCount, bufferTag, stationTag, Slot, slotOf}
 use Rattle.theory_machine.specs.Steps.{granted}
-use Rattle.machine_parts.specs.declared.parts.Tag.{Tag}
+use Rattle.machine_parts.specs.declared.Tag.{Tag}
 use Rattle.machine_take.specs.declared.change.Change.{Change}
 use Rattle.machine_take.specs.declared.change.Change.the-variants.{Refused, Gives}
 use Rattle.machine_take.specs.Changes.{freed, changed, Named, Within, Grows, Makes}

@@ -4,8 +4,8 @@ use mathlib.Core.Option.{Option·some-injective}
 use lib.Ieee.{Float}
 use Rattle.numbers.proofs.Determined.{Determines, one-answer}
 use Rattle.theory_machine.specs.Machine.{Record as TheRecord}
-use Rattle.machine_parts.specs.declared.parts.Released.{Released}
-use Rattle.machine_parts.specs.declared.parts.Released.the-variants.{Nothing, One}
+use Rattle.machine_parts.specs.declared.Released.{Released}
+use Rattle.machine_parts.specs.declared.Released.the-variants.{Nothing, One}
 use Rattle.machine_parts.specs.View.{viewRecord, viewReleased}
 use Rattle.machine_parts.proofs.Exact.{view-exact}
 use Rattle.machine_take.specs.declared.taking.Taken as code

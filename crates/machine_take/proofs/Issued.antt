@@ -28,11 +28,11 @@ use Rattle.machine_take.specs.Changes.{changed, Within, Grows, instructi
 use Rattle.machine_take.specs.declared.change.Change.{Change}
 use Rattle.machine_take.specs.declared.change.Change.the-variants.{Refused, Loads, TakesCell, Copies, TakesRegister, Stores}
 use Rattle.machine_free.specs.declared.FreeSlot.{FreeSlot}
-use Rattle.machine_parts.specs.declared.parts.Operand.the-variants.{Number}
-use Rattle.machine_parts.specs.declared.parts.Register.{Register}
-use Rattle.machine_parts.specs.declared.parts.Buffer.{Buffer}
-use Rattle.machine_parts.specs.declared.parts.Station.{Station}
-use Rattle.machine_parts.specs.declared.parts.StoreBuffer.{StoreBuffer}
+use Rattle.machine_parts.specs.declared.Operand.the-variants.{Number}
+use Rattle.machine_parts.specs.declared.Register.{Register}
+use Rattle.machine_parts.specs.declared.Buffer.{Buffer}
+use Rattle.machine_parts.specs.declared.Station.{Station}
+use Rattle.machine_parts.specs.declared.StoreBuffer.{StoreBuffer}
 use Rattle.machine_parts.proofs.Seen.{any-default}
 
 -- the answer of a finder, once it is known which

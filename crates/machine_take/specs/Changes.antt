@@ -13,9 +13,9 @@ use Rattle.theory_machine.specs.Steps.{granted, perform}
 use Rattle.words.specs.declared.Form.{Form}
 use Rattle.words.specs.declared.Form.the-variants.{Unknown, LD, LDR, CellArithmetic, RegisterArithmetic, STD}
 use Rattle.theory_machine.specs.Instruction.{Instruction, noInstruction, load, store, copy, cellArithmetic, registerArithmetic, indexOf}
-use Rattle.machine_parts.specs.declared.parts.Buffer.{Buffer}
-use Rattle.machine_parts.specs.declared.parts.Station.{Station}
-use Rattle.machine_parts.specs.declared.parts.StoreBuffer.{StoreBuffer}
+use Rattle.machine_parts.specs.declared.Buffer.{Buffer}
+use Rattle.machine_parts.specs.declared.Station.{Station}
+use Rattle.machine_parts.specs.declared.StoreBuffer.{StoreBuffer}
 use Rattle.machine_parts.specs.View.{viewBuffer, viewStation, viewStore, viewRecord}
 use Rattle.machine_take.specs.declared.change.Change.{Change}
 use Rattle.machine_take.specs.declared.change.Change.the-variants.{Refused, Loads, TakesCell, Copies, TakesRegister, Stores, Arrives, Completes, Gives, Releases}

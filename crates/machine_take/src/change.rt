@@ -1,14 +1,15 @@
 // What a step makes of the machine, found out before anything is stored: slots by their index from 0.
-use machine_parts::parts::Buffer;
-use machine_parts::parts::BufferState;
-use machine_parts::parts::Held;
-use machine_parts::parts::Operand;
-use machine_parts::parts::Record;
-use machine_parts::parts::Station;
-use machine_parts::parts::StationState;
-use machine_parts::parts::StoreBuffer;
-use machine_parts::parts::StoreState;
-use machine_parts::parts::Tag;
+use machine_parts::Buffer;
+use machine_parts::BufferState;
+use machine_parts::Fetched;
+use machine_parts::Operand;
+use machine_parts::Record;
+use machine_parts::Station;
+use machine_parts::StationState;
+use machine_parts::StoreBuffer;
+use machine_parts::StoreState;
+use machine_parts::Tag;
+use machine_parts::Worked;
 use numbers::Operation;
 use words::refusal;
 ghost use mathlib.Core.Path.{_≡_};
@@ -30,8 +31,8 @@ pub enum Change {
     TakesRegister(Operation, usize, usize, usize),
     // R1, the cell and the store buffer
     Stores(usize, usize, usize),
-    Arrives(usize, Held),
-    Completes(usize, Held),
+    Arrives(usize, Fetched),
+    Completes(usize, Worked),
     // the tag that is granted the bus
     Gives(Tag, f64),
     Releases(usize, Record),
@@ -65,7 +66,7 @@ pub(crate) fn arrival(b: usize, old: Buffer, operands: &[f64]) -> Change
             let number = operand_cell(operands, cell);
             Change::Arrives(
                 b,
-                Held {
+                Fetched {
                     place: fetch.place,
                     number: number,
                 },
@@ -92,7 +93,7 @@ pub(crate) fn completion(u: usize, old: Station) -> Change
                         let number = numbers::computed(operation, x, y);
                         Change::Completes(
                             u,
-                            Held {
+                            Worked {
                                 place: work.place,
                                 number: number,
                             },
@@ -115,7 +116,7 @@ pub(crate) fn buffer_grant(b: usize, old: Buffer) -> Change
     match state {
         BufferState::Free => not_now(),
         BufferState::Waiting(_) => not_now(),
-        BufferState::Full(held) => Change::Gives(Tag::of_buffer(b), held.number),
+        BufferState::Full(fetched) => Change::Gives(Tag::of_buffer(b), fetched.number),
     }
 }
 
@@ -127,7 +128,7 @@ pub(crate) fn station_grant(u: usize, old: Station) -> Change
     match state {
         StationState::Free => not_now(),
         StationState::Holding(_) => not_now(),
-        StationState::Done(held) => Change::Gives(Tag::of_station(u), held.number),
+        StationState::Done(worked) => Change::Gives(Tag::of_station(u), worked.number),
     }
 }
 

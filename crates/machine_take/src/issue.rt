@@ -6,10 +6,11 @@ use machine_free::cell_live;
 use machine_free::lowest_buffer;
 use machine_free::lowest_station;
 use machine_free::lowest_store;
-use machine_parts::parts::Buffer;
-use machine_parts::parts::Register;
-use machine_parts::parts::Station;
-use machine_parts::parts::StoreBuffer;
+use machine_parts::Buffer;
+use machine_parts::Register;
+use machine_parts::Station;
+use machine_parts::StoreBuffer;
+use machine_parts::Tag;
 use words::Areas;
 use words::Form;
 use words::refusal;
@@ -22,9 +23,9 @@ fn slots_for(
     form: Form,
     r: usize,
     operand: u32,
-    bs: [Buffer; 6],
-    ss: [Station; 5],
-    ts: [StoreBuffer; 3],
+    bs: [Buffer; Tag::BUFFERS],
+    ss: [Station; Tag::STATIONS],
+    ts: [StoreBuffer; StoreBuffer::COUNT],
 ) -> Change
     requires { ⌜ RegistersIn (instructionFor form r operand) ⌝ }
     ensures { λ c. ⌜ Issues bs ss ts (instructionFor form r operand) c ⌝ }
@@ -63,9 +64,9 @@ fn slots_for(
 // "for an issue at the list's end 7, else 2, 3, 4 for that word, then 7"
 pub(crate) fn issue(
     place: usize,
-    bs: [Buffer; 6],
-    ss: [Station; 5],
-    ts: [StoreBuffer; 3],
+    bs: [Buffer; Tag::BUFFERS],
+    ss: [Station; Tag::STATIONS],
+    ts: [StoreBuffer; StoreBuffer::COUNT],
     words: &[u32],
     operands: &[f64],
     results: usize,

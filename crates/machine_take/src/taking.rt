@@ -3,9 +3,11 @@
 use crate::change;
 use crate::change::Change;
 use crate::issue::issue;
-use machine_parts::parts::Machine;
-use machine_parts::parts::Released;
-use machine_parts::parts::Tag;
+use machine_parts::Machine;
+use machine_parts::Register;
+use machine_parts::Released;
+use machine_parts::StoreBuffer;
+use machine_parts::Tag;
 use machine_slots::code::Step;
 use machine_slots::code::step_of;
 use machine_slots::made;
@@ -106,11 +108,11 @@ pub fn take_codes(
                         n.stores[t] = made::pending(next, cell, operand);
                         n.next = next + 1;
                     }
-                    Change::Arrives(b, held) => {
-                        n.buffers[b] = made::full(held);
+                    Change::Arrives(b, fetched) => {
+                        n.buffers[b] = made::full(fetched);
                     }
-                    Change::Completes(u, held) => {
-                        n.stations[u] = made::done(held);
+                    Change::Completes(u, worked) => {
+                        n.stations[u] = made::done(worked);
                     }
                     Change::Gives(tag, number) => {
                         let t = tag.0;
@@ -119,21 +121,21 @@ pub fn take_codes(
                         } else {
                             n.stations[(t - Tag::FIRST_STATION) as usize] = made::free_station();
                         }
-                        for i in 0..4 {
+                        for i in 0..Register::COUNT {
                             let register = n.registers[i];
                             if !machine_bus::register_waits(register, tag) {
                                 continue;
                             }
                             n.registers[i] = machine_bus::given_register(register, tag, number);
                         }
-                        for i in 0..5 {
+                        for i in 0..Tag::STATIONS {
                             let station = n.stations[i];
                             if !machine_bus::station_waits(station, tag) {
                                 continue;
                             }
                             n.stations[i] = machine_bus::given_station(station, tag, number);
                         }
-                        for i in 0..3 {
+                        for i in 0..StoreBuffer::COUNT {
                             let store = n.stores[i];
                             if !machine_bus::store_waits(store, tag) {
                                 continue;

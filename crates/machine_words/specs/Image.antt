@@ -2,7 +2,7 @@
 -- word 27; three store buffers of 5 from word 62. A number goes as its pattern. Free is 0, and so is every word that a state has no use for.
 use mathlib.Core.Bool.{cond}
 use mathlib.Core.List.{List, [], _∷_, _++_}
-use Prim.Native.Nat.{ℕ, zero, suc, _+_, _%_}
+use Prim.Native.Nat.{ℕ, zero, suc, _+_, _*_, _%_}
 use lib.Dec.{eqb}
 use lib.Ieee.{Float}
 use lib.ListN.{set}
@@ -10,13 +10,11 @@ use lib.Seq.{sets}
 use Rattle.numbers.specs.declared.Operation.{Operation}
 use Rattle.numbers.specs.declared.Operation.the-variants.{Add, Subtract, Multiply, Divide}
 use Rattle.numbers.specs.Number.{patternOf, numberOf}
-use Rattle.machine_parts.specs.declared.parts.Held.{Held}
+use Rattle.machine_parts.specs.declared.Fetched.{Fetched}
+use Rattle.machine_parts.specs.declared.Worked.{Worked}
 use Rattle.theory_machine.specs.Tags.{registerCount, bufferCount, stationCount, storeCount}
 use Rattle.theory_machine.specs.Machine.{Machine, Operand, num, tag, Buffer, freeBuffer, waiting, full, Station, freeStation, holding, done, StoreBuffer, freeStore, live, standing}
 use Rattle.machine_words.specs.Rows.{wordAt}
-
-abbrev pub imageLength : ℕ
-imageLength = 77
 
 -- where each row begins, and how many words each slot of it has
 abbrev pub registersFrom : ℕ
@@ -26,22 +24,26 @@ abbrev pub registerWidth : ℕ
 registerWidth = 2
 
 abbrev pub buffersFrom : ℕ
-buffersFrom = 9
+buffersFrom = registersFrom + registerCount * registerWidth
 
 abbrev pub bufferWidth : ℕ
 bufferWidth = 3
 
 abbrev pub stationsFrom : ℕ
-stationsFrom = 27
+stationsFrom = buffersFrom + bufferCount * bufferWidth
 
 abbrev pub stationWidth : ℕ
 stationWidth = 7
 
 abbrev pub storesFrom : ℕ
-storesFrom = 62
+storesFrom = stationsFrom + stationCount * stationWidth
 
 abbrev pub storeWidth : ℕ
 storeWidth = 5
+
+-- the words of a machine
+abbrev pub imageLength : ℕ
+imageLength = storesFrom + storeCount * storeWidth
 
 -- so many slots, one after another
 abbrev pub rowAt : {A : Type 0} → (ℕ → A) → (width count place : ℕ) → List A
@@ -58,9 +60,12 @@ module _ (image : List ℕ) where
       let w = wordAt image p in
       cond (eqb w 0) Add (cond (eqb w 1) Subtract (cond (eqb w 2) Multiply Divide))
 
-  -- a place in the list and a number
-  abbrev pub heldAt : (place : ℕ) → Held
-  heldAt p = record { place = wordAt image p; number = numberOf (wordAt image (p + 1)) }
+  -- a place in the list and a number, of a full buffer or of a station that is done
+  abbrev pub fetchedAt : (place : ℕ) → Fetched
+  fetchedAt p = record { place = wordAt image p; number = numberOf (wordAt image (p + 1)) }
+
+  abbrev pub workedAt : (place : ℕ) → Worked
+  workedAt p = record { place = wordAt image p; number = numberOf (wordAt image (p + 1)) }
 
   abbrev pub bufferAt : (place : ℕ) → Buffer Float
   bufferAt p =

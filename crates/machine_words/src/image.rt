@@ -1,28 +1,45 @@
 // A machine read from its row of words (specs/Image.antt).
+use crate::layout::BUFFER_0;
+use crate::layout::BUFFER_1;
+use crate::layout::BUFFER_2;
+use crate::layout::BUFFER_3;
+use crate::layout::BUFFER_4;
+use crate::layout::BUFFER_5;
+use crate::layout::NEXT;
+use crate::layout::REGISTER_0;
+use crate::layout::REGISTER_1;
+use crate::layout::REGISTER_2;
+use crate::layout::REGISTER_3;
+use crate::layout::STATION_0;
+use crate::layout::STATION_1;
+use crate::layout::STATION_2;
+use crate::layout::STATION_3;
+use crate::layout::STATION_4;
+use crate::layout::STORE_0;
+use crate::layout::STORE_1;
+use crate::layout::STORE_2;
 use crate::row::word_or_zero;
-use machine_parts::parts::Buffer;
-use machine_parts::parts::BufferState;
-use machine_parts::parts::Fetch;
-use machine_parts::parts::Held;
-use machine_parts::parts::Machine;
-use machine_parts::parts::Operand;
-use machine_parts::parts::Pending;
-use machine_parts::parts::Register;
-use machine_parts::parts::Station;
-use machine_parts::parts::StationState;
-use machine_parts::parts::StoreBuffer;
-use machine_parts::parts::StoreState;
-use machine_parts::parts::Tag;
-use machine_parts::parts::Work;
+use machine_parts::Buffer;
+use machine_parts::BufferState;
+use machine_parts::Fetch;
+use machine_parts::Fetched;
+use machine_parts::Machine;
+use machine_parts::Operand;
+use machine_parts::Pending;
+use machine_parts::Register;
+use machine_parts::Station;
+use machine_parts::StationState;
+use machine_parts::StoreBuffer;
+use machine_parts::StoreState;
+use machine_parts::Tag;
+use machine_parts::Work;
+use machine_parts::Worked;
 use numbers::Operation;
 ghost use mathlib.Core.Path.{_≡_};
 ghost use Prim.Native.Nat.{_+_, _≤_};
 ghost use Rattle.machine_parts.specs.View.{viewOperand, viewRegister, viewBuffer, viewStation, viewStore, view};
 ghost use Rattle.machine_words.specs.Image as image;
 ghost use Rattle.machine_words.specs.Image.{machineIn, imageLength};
-
-// The words of a machine.
-pub const WORDS: usize = 77;
 
 fn operand_at(row: &[u64], place: usize) -> Operand
     requires { ⌜ place + 2 ≤ imageLength ⌝ }
@@ -60,11 +77,21 @@ fn operation_at(row: &[u64], place: usize) -> Operation
     Operation::Divide
 }
 
-fn held_at(row: &[u64], place: usize) -> Held
+fn fetched_at(row: &[u64], place: usize) -> Fetched
     requires { ⌜ place + 2 ≤ imageLength ⌝ }
-    ensures { λ r. ⌜ r ≡ image.heldAt (now (row .entry)) place ⌝ }
+    ensures { λ r. ⌜ r ≡ image.fetchedAt (now (row .entry)) place ⌝ }
 {
-    Held {
+    Fetched {
+        place: word_or_zero(row, place) as usize,
+        number: numbers::number_of(word_or_zero(row, place + 1)),
+    }
+}
+
+fn worked_at(row: &[u64], place: usize) -> Worked
+    requires { ⌜ place + 2 ≤ imageLength ⌝ }
+    ensures { λ r. ⌜ r ≡ image.workedAt (now (row .entry)) place ⌝ }
+{
+    Worked {
         place: word_or_zero(row, place) as usize,
         number: numbers::number_of(word_or_zero(row, place + 1)),
     }
@@ -90,7 +117,7 @@ fn buffer_at(row: &[u64], place: usize) -> Buffer
         };
     }
     Buffer {
-        state: BufferState::Full(held_at(row, place + 1)),
+        state: BufferState::Full(fetched_at(row, place + 1)),
     }
 }
 
@@ -116,7 +143,7 @@ fn station_at(row: &[u64], place: usize) -> Station
         };
     }
     Station {
-        state: StationState::Done(held_at(row, place + 1)),
+        state: StationState::Done(worked_at(row, place + 1)),
     }
 }
 
@@ -143,28 +170,32 @@ pub fn machine_in(row: &[u64]) -> Machine
     ensures { λ r. ⌜ view r ≡ machineIn (now (row .entry)) ⌝ }
 {
     Machine {
-        next: word_or_zero(row, 0) as usize,
+        next: word_or_zero(row, NEXT) as usize,
         registers: [
-            register_at(row, 1),
-            register_at(row, 3),
-            register_at(row, 5),
-            register_at(row, 7),
+            register_at(row, REGISTER_0),
+            register_at(row, REGISTER_1),
+            register_at(row, REGISTER_2),
+            register_at(row, REGISTER_3),
         ],
         buffers: [
-            buffer_at(row, 9),
-            buffer_at(row, 12),
-            buffer_at(row, 15),
-            buffer_at(row, 18),
-            buffer_at(row, 21),
-            buffer_at(row, 24),
+            buffer_at(row, BUFFER_0),
+            buffer_at(row, BUFFER_1),
+            buffer_at(row, BUFFER_2),
+            buffer_at(row, BUFFER_3),
+            buffer_at(row, BUFFER_4),
+            buffer_at(row, BUFFER_5),
         ],
         stations: [
-            station_at(row, 27),
-            station_at(row, 34),
-            station_at(row, 41),
-            station_at(row, 48),
-            station_at(row, 55),
+            station_at(row, STATION_0),
+            station_at(row, STATION_1),
+            station_at(row, STATION_2),
+            station_at(row, STATION_3),
+            station_at(row, STATION_4),
         ],
-        stores: [store_at(row, 62), store_at(row, 67), store_at(row, 72)],
+        stores: [
+            store_at(row, STORE_0),
+            store_at(row, STORE_1),
+            store_at(row, STORE_2),
+        ],
     }
 }

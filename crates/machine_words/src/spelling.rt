@@ -1,15 +1,39 @@
 // A machine written to its row of words, slot by slot (specs/Image.antt).
+use crate::layout::BUFFER_0;
+use crate::layout::BUFFER_1;
+use crate::layout::BUFFER_2;
+use crate::layout::BUFFER_3;
+use crate::layout::BUFFER_4;
+use crate::layout::BUFFER_5;
+use crate::layout::BUFFER_WIDTH;
+use crate::layout::NEXT;
+use crate::layout::REGISTER_0;
+use crate::layout::REGISTER_1;
+use crate::layout::REGISTER_2;
+use crate::layout::REGISTER_3;
+use crate::layout::REGISTER_WIDTH;
+use crate::layout::STATION_0;
+use crate::layout::STATION_1;
+use crate::layout::STATION_2;
+use crate::layout::STATION_3;
+use crate::layout::STATION_4;
+use crate::layout::STATION_WIDTH;
+use crate::layout::STORE_0;
+use crate::layout::STORE_1;
+use crate::layout::STORE_2;
+use crate::layout::STORE_WIDTH;
 use crate::row::put_word;
 use crate::row::put_words;
-use machine_parts::parts::Buffer;
-use machine_parts::parts::BufferState;
-use machine_parts::parts::Machine;
-use machine_parts::parts::Operand;
-use machine_parts::parts::Register;
-use machine_parts::parts::Station;
-use machine_parts::parts::StationState;
-use machine_parts::parts::StoreBuffer;
-use machine_parts::parts::StoreState;
+use machine_parts::Buffer;
+use machine_parts::BufferState;
+use machine_parts::Machine;
+use machine_parts::Operand;
+use machine_parts::Register;
+use machine_parts::Station;
+use machine_parts::StationState;
+use machine_parts::StoreBuffer;
+use machine_parts::StoreState;
+use machine_parts::Tag;
 use numbers::Operation;
 ghost use mathlib.Core.Path.{_≡_};
 ghost use Prim.Native.Nat.{_<_};
@@ -19,7 +43,7 @@ ghost use lib.Seq.{sets};
 ghost use Rattle.machine_parts.specs.View.{viewOperand, viewRegister, viewBuffer, viewStation, viewStore, view};
 ghost use Rattle.machine_words.specs.Image.{operandWords, operationWord, bufferWords, stationWords, storeWords, registersOver, buffersOver, stationsOver, storesOver, imageOver, imageLength};
 
-fn operand_words(operand: Operand) -> [u64; 2]
+fn operand_words(operand: Operand) -> [u64; REGISTER_WIDTH]
     ensures { λ r. ⌜ r ≡ operandWords (viewOperand operand) ⌝ }
 {
     match operand {
@@ -39,18 +63,22 @@ fn operation_word(operation: Operation) -> u64
     }
 }
 
-fn buffer_words(buffer: Buffer) -> [u64; 3]
+fn buffer_words(buffer: Buffer) -> [u64; BUFFER_WIDTH]
     ensures { λ r. ⌜ r ≡ bufferWords (viewBuffer buffer) ⌝ }
 {
     let state = buffer.state;
     match state {
         BufferState::Free => [0, 0, 0],
         BufferState::Waiting(fetch) => [1, fetch.place as u64, fetch.cell as u64],
-        BufferState::Full(held) => [2, held.place as u64, numbers::pattern_of(held.number)],
+        BufferState::Full(fetched) => [
+            2,
+            fetched.place as u64,
+            numbers::pattern_of(fetched.number),
+        ],
     }
 }
 
-fn station_words(station: Station) -> [u64; 7]
+fn station_words(station: Station) -> [u64; STATION_WIDTH]
     ensures { λ r. ⌜ r ≡ stationWords (viewStation station) ⌝ }
 {
     let state = station.state;
@@ -65,14 +93,14 @@ fn station_words(station: Station) -> [u64; 7]
             let code = operation_word(operation);
             [1, work.place as u64, code, x[0], x[1], y[0], y[1]]
         }
-        StationState::Done(held) => {
-            let pattern = numbers::pattern_of(held.number);
-            [2, held.place as u64, pattern, 0, 0, 0, 0]
+        StationState::Done(worked) => {
+            let pattern = numbers::pattern_of(worked.number);
+            [2, worked.place as u64, pattern, 0, 0, 0, 0]
         }
     }
 }
 
-fn store_words(store: StoreBuffer) -> [u64; 5]
+fn store_words(store: StoreBuffer) -> [u64; STORE_WIDTH]
     ensures { λ r. ⌜ r ≡ storeWords (viewStore store) ⌝ }
 {
     let state = store.state;
@@ -119,42 +147,42 @@ fn put_store(row: &mut [u64], place: usize, store: StoreBuffer)
     put_words(row, place, &words);
 }
 
-fn put_registers(row: &mut [u64], registers: [Register; 4])
+fn put_registers(row: &mut [u64], registers: [Register; Register::COUNT])
     ensures { λ _. ⌜ now (row .exit) ≡ registersOver (map viewRegister registers) (now (row .entry)) ⌝ }
 {
-    put_register(row, 1, registers[0]);
-    put_register(row, 3, registers[1]);
-    put_register(row, 5, registers[2]);
-    put_register(row, 7, registers[3]);
+    put_register(row, REGISTER_0, registers[0]);
+    put_register(row, REGISTER_1, registers[1]);
+    put_register(row, REGISTER_2, registers[2]);
+    put_register(row, REGISTER_3, registers[3]);
 }
 
-fn put_buffers(row: &mut [u64], buffers: [Buffer; 6])
+fn put_buffers(row: &mut [u64], buffers: [Buffer; Tag::BUFFERS])
     ensures { λ _. ⌜ now (row .exit) ≡ buffersOver (map viewBuffer buffers) (now (row .entry)) ⌝ }
 {
-    put_buffer(row, 9, buffers[0]);
-    put_buffer(row, 12, buffers[1]);
-    put_buffer(row, 15, buffers[2]);
-    put_buffer(row, 18, buffers[3]);
-    put_buffer(row, 21, buffers[4]);
-    put_buffer(row, 24, buffers[5]);
+    put_buffer(row, BUFFER_0, buffers[0]);
+    put_buffer(row, BUFFER_1, buffers[1]);
+    put_buffer(row, BUFFER_2, buffers[2]);
+    put_buffer(row, BUFFER_3, buffers[3]);
+    put_buffer(row, BUFFER_4, buffers[4]);
+    put_buffer(row, BUFFER_5, buffers[5]);
 }
 
-fn put_stations(row: &mut [u64], stations: [Station; 5])
+fn put_stations(row: &mut [u64], stations: [Station; Tag::STATIONS])
     ensures { λ _. ⌜ now (row .exit) ≡ stationsOver (map viewStation stations) (now (row .entry)) ⌝ }
 {
-    put_station(row, 27, stations[0]);
-    put_station(row, 34, stations[1]);
-    put_station(row, 41, stations[2]);
-    put_station(row, 48, stations[3]);
-    put_station(row, 55, stations[4]);
+    put_station(row, STATION_0, stations[0]);
+    put_station(row, STATION_1, stations[1]);
+    put_station(row, STATION_2, stations[2]);
+    put_station(row, STATION_3, stations[3]);
+    put_station(row, STATION_4, stations[4]);
 }
 
-fn put_stores(row: &mut [u64], stores: [StoreBuffer; 3])
+fn put_stores(row: &mut [u64], stores: [StoreBuffer; StoreBuffer::COUNT])
     ensures { λ _. ⌜ now (row .exit) ≡ storesOver (map viewStore stores) (now (row .entry)) ⌝ }
 {
-    put_store(row, 62, stores[0]);
-    put_store(row, 67, stores[1]);
-    put_store(row, 72, stores[2]);
+    put_store(row, STORE_0, stores[0]);
+    put_store(row, STORE_1, stores[1]);
+    put_store(row, STORE_2, stores[2]);
 }
 
 pub fn put_machine(row: &mut [u64], m: Machine)
@@ -164,7 +192,7 @@ pub fn put_machine(row: &mut [u64], m: Machine)
     let buffers = m.buffers;
     let stations = m.stations;
     let stores = m.stores;
-    put_word(row, 0, m.next as u64);
+    put_word(row, NEXT, m.next as u64);
     put_registers(row, registers);
     put_buffers(row, buffers);
     put_stations(row, stations);

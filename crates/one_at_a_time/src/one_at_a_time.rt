@@ -1,5 +1,5 @@
 // The one-at-a-time run (01's table of instructions, and "Refusal numbers").
-use machine_parts::parts::Register;
+use machine_parts::Register;
 use words::Areas;
 use words::Form;
 use words::check_list_against;
@@ -19,12 +19,12 @@ ghost use Rattle.one_at_a_time.specs.Answers.{at, viewOneAtATime};
 
 // The answer of a run: the registers, the start numbers when refused, and a refusal number of 01, 0 for accepted.
 pub struct OneAtATime {
-    pub registers: [f64; 4],
+    pub registers: [f64; Register::COUNT],
     pub refusal: u32,
 }
 
 // One instruction: "R1 takes the operand"; "R1 plus, minus, times, over operand to R1"; "R1 to the result cell". The word has been checked.
-fn execute(word: u32, registers: &mut [f64; 4], operands: &[f64], results: &mut [f64])
+fn execute(word: u32, registers: &mut [f64; Register::COUNT], operands: &[f64], results: &mut [f64])
     requires { ⌜ wordRefusal (areasOf (lent [] (now operands) (now results))) word ≡ 0 ⌝ }
     requires { ⌜ length (now registers) ≡ registerCount ⌝ }
     ensures { λ r. ⌜ at (now (registers .exit)) (now (results .exit)) ≡ execute binary64 (cellsAlone (now (operands .entry))) (decode word) (at (now (registers .entry)) (now (results .entry))) ⌝ }
@@ -62,7 +62,7 @@ pub fn one_at_a_time(
     words: &[u32],
     operands: &[f64],
     results: &mut [f64],
-    starts: [f64; 4],
+    starts: [f64; Register::COUNT],
 ) -> OneAtATime
     ensures { λ r. ⌜ viewOneAtATime r (now (results .exit)) ≡ oneAtATime binary64 (lent (now (words .entry)) (now (operands .entry)) (now (results .entry))) (at starts (now (results .entry))) ⌝ }
 {

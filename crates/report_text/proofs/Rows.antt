@@ -7,9 +7,9 @@ use native.Mathlib.Numerals.{add-one}
 use lib.Ieee.{nan}
 use lib.ListN.{length, getD, take, length-map}
 use lib.Seq.{take-suc, length-take-le}
-use Rattle.machine_parts.specs.declared.parts.Operand.the-variants.{Number}
-use Rattle.machine_parts.specs.declared.parts.Register.{Register}
-use Rattle.machine_parts.specs.declared.parts.Record.{Record}
+use Rattle.machine_parts.specs.declared.Operand.the-variants.{Number}
+use Rattle.machine_parts.specs.declared.Register.{Register}
+use Rattle.machine_parts.specs.declared.Record.{Record}
 use Rattle.machine_parts.specs.View.{viewRegister, viewRecord}
 use Rattle.theory_report.specs.Report.{registerLine, registerLines, recordLine, recordLines}
 use Rattle.report_text.specs.Put.{recordLimit}

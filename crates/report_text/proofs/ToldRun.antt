@@ -11,8 +11,8 @@ use Rattle.theory_machine.specs.Entries.{stepsLeft}
 use Rattle.theory_machine.specs.Binary64.{binary64}
 use Rattle.theory_run.specs.Run.{ScheduleRun, run}
 use Rattle.theory_run.proofs.Theorems.{runIsAsked}
-use Rattle.machine_parts.specs.declared.parts.Machine.{Machine}
-use Rattle.machine_parts.specs.declared.parts.Record.{Record}
+use Rattle.machine_parts.specs.declared.Machine.{Machine}
+use Rattle.machine_parts.specs.declared.Record.{Record}
 use Rattle.machine_parts.specs.View.{view, viewRecord, lent}
 use Rattle.machine_steps.specs.declared.advance.Progress.{Progress}
 use Rattle.lent_run.specs.Run.{Shows, RunAnswer}

@@ -2,9 +2,9 @@
 use crate::put::put_decimal;
 use crate::put::put_pattern;
 use crate::put::put_text;
-use machine_parts::parts::Operand;
-use machine_parts::parts::Record;
-use machine_parts::parts::Register;
+use machine_parts::Operand;
+use machine_parts::Record;
+use machine_parts::Register;
 ghost use mathlib.Core.List.{map};
 ghost use Prim.Native.Nat.{_+_, _*_, _≤_};
 ghost use lib.ListN.{length, take};

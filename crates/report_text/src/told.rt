@@ -1,8 +1,8 @@
 // A run: the machine that it starts from, its schedule, and what is told of it.
 use crate::page::put_page;
 use lent_run::run::run_logged;
-use machine_parts::parts::Machine;
-use machine_parts::parts::Record;
+use machine_parts::Machine;
+use machine_parts::Record;
 use machine_parts::start::fresh;
 use machine_steps::advance::Progress;
 use steps_left::steps_left;

@@ -1,9 +1,11 @@
 -- Document 01, "The list file and the schedule": numbers in groups of seven bits, with refusals 8 and 9.
-use mathlib.Core.Bool.{Bool, cond}
+use mathlib.Core.Path.{_≡_}
+use mathlib.Core.Bool.{Bool, cond, _&&_}
 use mathlib.Core.List.{List, [], _∷_}
 use Prim.Native.Nat.{ℕ, zero, suc, _+_, _*_, _/_, _%_}
 use lib.Dec.{ltb, leb, eqb}
-use lib.ListN.{drop}
+use lib.ListN.{length, drop}
+use lib.Seq.{sets}
 
 -- what a place of a file gives: a value and the place after it, or a refusal with its place
 pub data Parsed (A : Type 0) : Type 0 where
@@ -78,3 +80,11 @@ groupsOf (suc more) value =
 
 unfoldable pub bytesOf : ℕ → List ℕ
 bytesOf value = groupsOf (suc afterSecond) value
+
+-- a number is written where it is within the limit and has room: it stands there, and `end` is the place after it; else nothing is written
+abbrev pub fitsAt : (value : ℕ) (bytes : List ℕ) (at : ℕ) → Bool
+fitsAt value bytes at = leb value numberLimit && leb (at + length (bytesOf value)) (length bytes)
+
+pub record PutNumber (value : ℕ) (before after : List ℕ) (at end : ℕ) : Type 0 where
+  pub ends : end ≡ cond (fitsAt value before at) (at + length (bytesOf value)) at
+  pub stored : after ≡ cond (fitsAt value before at) (sets before at (bytesOf value)) before

@@ -1,12 +1,13 @@
 // Steps left, and whether a machine is drained (01, "Steps" and "Drained").
 use good_order::entry_refusal;
-use machine_parts::parts::Buffer;
-use machine_parts::parts::BufferState;
-use machine_parts::parts::Machine;
-use machine_parts::parts::Station;
-use machine_parts::parts::StationState;
-use machine_parts::parts::StoreBuffer;
-use machine_parts::parts::StoreState;
+use machine_parts::Buffer;
+use machine_parts::BufferState;
+use machine_parts::Machine;
+use machine_parts::Station;
+use machine_parts::StationState;
+use machine_parts::StoreBuffer;
+use machine_parts::StoreState;
+use machine_parts::Tag;
 use words::Areas;
 use words::Form;
 use words::refusal;
@@ -61,7 +62,7 @@ fn store_left(store: StoreBuffer) -> usize
     }
 }
 
-fn buffers_left(buffers: [Buffer; 6]) -> usize
+fn buffers_left(buffers: [Buffer; Tag::BUFFERS]) -> usize
     ensures { λ r. ⌜ r ≡ sum bufferLeft (map viewBuffer buffers) ⌝ }
 {
     let mut left = 0;
@@ -71,7 +72,7 @@ fn buffers_left(buffers: [Buffer; 6]) -> usize
     left
 }
 
-fn stations_left(stations: [Station; 5]) -> usize
+fn stations_left(stations: [Station; Tag::STATIONS]) -> usize
     ensures { λ r. ⌜ r ≡ sum stationLeft (map viewStation stations) ⌝ }
 {
     let mut left = 0;
@@ -81,7 +82,7 @@ fn stations_left(stations: [Station; 5]) -> usize
     left
 }
 
-fn stores_left(stores: [StoreBuffer; 3]) -> usize
+fn stores_left(stores: [StoreBuffer; StoreBuffer::COUNT]) -> usize
     ensures { λ r. ⌜ r ≡ sum storeLeft (map viewStore stores) ⌝ }
 {
     let mut left = 0;

@@ -1,20 +1,21 @@
 // Changes that a session makes to its fresh machine: any slot, damaged as it likes.
 use crate::scan::quarters;
 use crate::scan::scan_number;
-use machine_parts::parts::Buffer;
-use machine_parts::parts::BufferState;
-use machine_parts::parts::Fetch;
-use machine_parts::parts::Held;
-use machine_parts::parts::Machine;
-use machine_parts::parts::Operand;
-use machine_parts::parts::Pending;
-use machine_parts::parts::Register;
-use machine_parts::parts::Station;
-use machine_parts::parts::StationState;
-use machine_parts::parts::StoreBuffer;
-use machine_parts::parts::StoreState;
-use machine_parts::parts::Tag;
-use machine_parts::parts::Work;
+use machine_parts::Buffer;
+use machine_parts::BufferState;
+use machine_parts::Fetch;
+use machine_parts::Fetched;
+use machine_parts::Machine;
+use machine_parts::Operand;
+use machine_parts::Pending;
+use machine_parts::Register;
+use machine_parts::Station;
+use machine_parts::StationState;
+use machine_parts::StoreBuffer;
+use machine_parts::StoreState;
+use machine_parts::Tag;
+use machine_parts::Work;
+use machine_parts::Worked;
 use numbers::Operation;
 
 // A machine, and the place of the session's next number.
@@ -59,18 +60,18 @@ fn buffer_of(kind: usize, place: usize, cell: usize, number: f64) -> Buffer {
         };
     }
     Buffer {
-        state: BufferState::Full(Held { place, number }),
+        state: BufferState::Full(Fetched { place, number }),
     }
 }
 
-fn station_of(kind: usize, held: Held, work: Work) -> Station {
+fn station_of(kind: usize, worked: Worked, work: Work) -> Station {
     if kind == 4 {
         return Station {
             state: StationState::Holding(work),
         };
     }
     Station {
-        state: StationState::Done(held),
+        state: StationState::Done(worked),
     }
 }
 
@@ -105,7 +106,7 @@ fn changed(m: Machine, nine: [usize; 9]) -> Machine {
             let operation = operation_of(nine[4]);
             n.stations[index] = station_of(
                 kind,
-                Held { place, number },
+                Worked { place, number },
                 Work {
                     place,
                     operation,

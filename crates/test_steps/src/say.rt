@@ -1,7 +1,7 @@
 // What the program prints.
 use libc::STDOUT_FILENO;
-use machine_parts::parts::Operand;
-use machine_parts::parts::Register;
+use machine_parts::Operand;
+use machine_parts::Register;
 
 pub(crate) fn text(bytes: &[u8]) {
     io::write_all(STDOUT_FILENO, bytes);

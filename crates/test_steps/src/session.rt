@@ -11,9 +11,9 @@ use crate::scan::row_at;
 use crate::scan::scan_number;
 use crate::scan::words_at;
 use good_order::good_order;
-use machine_parts::parts::Machine;
-use machine_parts::parts::Register;
-use machine_parts::parts::Released;
+use machine_parts::Machine;
+use machine_parts::Register;
+use machine_parts::Released;
 use machine_parts::start::fresh;
 use machine_steps::lowest::Lowest;
 use machine_steps::lowest::lowest_step;
@@ -104,7 +104,7 @@ fn lowest(code: Lowest) {
     }
 }
 
-fn registers(four: [Register; 4]) {
+fn registers(four: [Register; Register::COUNT]) {
     register(four[0]);
     register(four[1]);
     register(four[2]);
@@ -131,7 +131,7 @@ fn standing(m: Machine, words: &[u32], operands: &[f64], results: &[f64]) {
 }
 
 // The one-at-a-time run from the same start, with result cells of its own.
-fn alone(words: &[u32], operands: &[f64], cells: &mut [f64], starts: [f64; 4]) {
+fn alone(words: &[u32], operands: &[f64], cells: &mut [f64], starts: [f64; Register::COUNT]) {
     let ran = one_at_a_time(words, operands, cells, starts);
     text(b"alone ");
     number(ran.refusal as usize);

@@ -14,8 +14,8 @@ use Rattle.theory_machine.specs.Issue.{Answer, isTaken}
 use Rattle.theory_machine.specs.Steps.{step}
 use Rattle.theory_machine.specs.Asked.{written}
 use Rattle.theory_run.specs.Run.{ScheduleRun}
-use Rattle.machine_parts.specs.declared.parts.Machine.{Machine}
-use Rattle.machine_parts.specs.declared.parts.Stepped.{Stepped}
+use Rattle.machine_parts.specs.declared.Machine.{Machine}
+use Rattle.machine_parts.specs.declared.Stepped.{Stepped}
 use Rattle.machine_parts.specs.View.{view, lent, viewStepped, viewReleased}
 use Rattle.machine_steps.specs.Step.{StepAnswer}
 use Rattle.machine_steps.specs.declared.advance.Progress.{Progress}

@@ -16,8 +16,8 @@ use Rattle.theory_machine.specs.Machine as theory
 use Rattle.theory_machine.specs.Machine.{Shape}
 use Rattle.theory_run.specs.Run.{ScheduleRun, run, loggedOver}
 use Rattle.theory_machine.specs.Binary64.{binary64}
-use Rattle.machine_parts.specs.declared.parts.Machine.{Machine}
-use Rattle.machine_parts.specs.declared.parts.Record.{Record}
+use Rattle.machine_parts.specs.declared.Machine.{Machine}
+use Rattle.machine_parts.specs.declared.Record.{Record}
 use Rattle.machine_parts.specs.View.{view, viewRecord, lent}
 use Rattle.machine_steps.specs.declared.advance.Progress.{Progress}
 use Rattle.machine_steps.specs.declared.advance.Stop.{Stop}

@@ -3,7 +3,7 @@ use mathlib.Core.Path.{_≡_}
 use mathlib.Core.Bool.{Bool, true, false, cond, not}
 use mathlib.Core.Option.{Option, none, some}
 use mathlib.Core.List.{List, [], _∷_, _++_}
-use Prim.Native.Nat.{ℕ, _/_}
+use Prim.Native.Nat.{ℕ, _+_, _/_}
 use lib.Dec.{eqb, leb}
 use lib.Ieee.{Float}
 use lib.ListN.{length}
@@ -30,12 +30,15 @@ pub record ByRoom (room : Bool) (Roomy Short : Type 0) : Type 0 where
   pub roomy : room ≡ true → Roomy
   pub short : room ≡ false → Short
 
--- the words of a row of answers: count or length, and place; what was released; the steps left; the lowest step; steps done, byte place and records
+-- the words of a record, and of a row of answers: count or length, and place; what was released; the steps left; the lowest step; steps done, byte place and records
 abbrev pub placedLength : ℕ
 placedLength = 2
 
+abbrev pub recordLength : ℕ
+recordLength = 3
+
 abbrev pub releasedLength : ℕ
-releasedLength = 4
+releasedLength = 1 + recordLength
 
 abbrev pub leftLength : ℕ
 leftLength = 1
@@ -61,7 +64,7 @@ logWords (r ∷ rs) = recordWords r ++ logWords rs
 
 -- a log that is lent has room for a record in each three words
 abbrev pub roomIn : (log : List ℕ) → ℕ
-roomIn log = length log / 3
+roomIn log = length log / recordLength
 
 -- whether there is a lowest step, and its code
 abbrev pub lowestWords : Option ℕ → List ℕ

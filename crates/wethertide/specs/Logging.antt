@@ -6,7 +6,7 @@ use lib.Dec.{ltb}
 use lib.Seq.{sets}
 use Rattle.machine_parts.specs.View.{viewRecord}
 use Rattle.machine_steps.specs.declared.advance.Stop.{Stop}
-use Rattle.wethertide.specs.Entries.{recordWords, roomIn}
+use Rattle.wethertide.specs.Entries.{recordLength, recordWords, roomIn}
 
 abbrev pub loggedStop : (log : List ℕ) → Stop → List ℕ
-loggedStop log s = cond (s .released && ltb (s .index) (roomIn log)) (sets log (s .index * 3) (recordWords (viewRecord (s .made)))) log
+loggedStop log s = cond (s .released && ltb (s .index) (roomIn log)) (sets log (s .index * recordLength) (recordWords (viewRecord (s .made)))) log

@@ -1,9 +1,10 @@
 // The entries on a machine that take no schedule, and the one-at-a-time run.
-use machine_parts::parts::Record;
-use machine_parts::parts::Released;
+use machine_parts::Record;
+use machine_parts::Register;
+use machine_parts::Released;
 use machine_steps::lowest::Lowest;
-use machine_words::image::WORDS;
 use machine_words::image::machine_in;
+use machine_words::layout::WORDS;
 use machine_words::row::number_or_zero;
 use machine_words::row::put_number;
 use machine_words::row::put_words;
@@ -24,16 +25,16 @@ ghost use Rattle.machine_steps.specs.Lowest.{viewLowest};
 ghost use Rattle.machine_words.specs.Image.{imageLength, machineIn, imageOver};
 ghost use Rattle.wethertide.specs.Entries.{fits, ByRoom, releasedLength, leftLength, lowestLength, recordWords, releasedWords, lowestWords, startsIn, StepWords, stepIn, aloneIn};
 
-// The words of each row: start numbers, what was released, the steps left, the lowest step.
-const REGISTERS: usize = 4;
+// The words of a record, and of each row: what was released, the steps left, the lowest step.
+pub(crate) const RECORD_WORDS: usize = 3;
 
-const RELEASED: usize = 4;
+const RELEASED: usize = 1 + RECORD_WORDS;
 
 const LEFT: usize = 1;
 
 const LOWEST: usize = 2;
 
-pub(crate) fn record_words(made: Record) -> [u64; 3]
+pub(crate) fn record_words(made: Record) -> [u64; RECORD_WORDS]
     ensures { λ r. ⌜ r ≡ recordWords (viewRecord made) ⌝ }
 {
     [
@@ -43,7 +44,7 @@ pub(crate) fn record_words(made: Record) -> [u64; 3]
     ]
 }
 
-fn released_words(released: Released) -> [u64; 4]
+fn released_words(released: Released) -> [u64; RELEASED]
     ensures { λ r. ⌜ r ≡ releasedWords (viewReleased released) ⌝ }
 {
     match released {
@@ -55,7 +56,7 @@ fn released_words(released: Released) -> [u64; 4]
     }
 }
 
-fn lowest_words(lowest: Lowest) -> [u64; 2]
+fn lowest_words(lowest: Lowest) -> [u64; LOWEST]
     ensures { λ r. ⌜ r ≡ lowestWords (viewLowest lowest) ⌝ }
 {
     match lowest {
@@ -64,7 +65,7 @@ fn lowest_words(lowest: Lowest) -> [u64; 2]
     }
 }
 
-fn starts_in(row: &[f64]) -> [f64; 4]
+fn starts_in(row: &[f64]) -> [f64; Register::COUNT]
     ensures { λ r. ⌜ r ≡ startsIn (now (row .entry)) ⌝ }
 {
     [
@@ -89,7 +90,7 @@ pub extern "C" fn wethertide_fresh(
         × (now (machine .exit) ≡ imageOver (fresh binary64 (lent (now (words .entry)) (now (operands .entry)) (now (results .entry))) (startsIn (now (starts .entry))) .machine) (now (machine .entry))))
         ((r ≡ 11) × (now (machine .exit) ≡ now (machine .entry))) ⌝ }
 {
-    if starts.len() < REGISTERS {
+    if starts.len() < Register::COUNT {
         return refusal::ROOM;
     }
     if machine.len() < WORDS {
@@ -232,7 +233,7 @@ pub extern "C" fn wethertide_one_at_a_time(
         × (now (registers .exit) ≡ sets (now (registers .entry)) 0 (aloneIn (now (words .entry)) (now (operands .entry)) (now (results .entry)) (now (registers .entry)) .run .registers)))
         ((r ≡ 11) × (now (results .exit) ≡ now (results .entry)) × (now (registers .exit) ≡ now (registers .entry))) ⌝ }
 {
-    if registers.len() < REGISTERS {
+    if registers.len() < Register::COUNT {
         return refusal::ROOM;
     }
     let starts = starts_in(registers);

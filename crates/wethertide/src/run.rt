@@ -1,12 +1,13 @@
 // The run of a schedule, its log a row of words: three to a record.
+use crate::machines::RECORD_WORDS;
 use crate::machines::record_words;
-use machine_parts::parts::Machine;
+use machine_parts::Machine;
 use machine_steps::advance::Progress;
 use machine_steps::advance::Stop;
 use machine_steps::advance::advance;
 use machine_steps::advance::begun;
-use machine_words::image::WORDS;
 use machine_words::image::machine_in;
+use machine_words::layout::WORDS;
 use machine_words::row::put_words;
 use machine_words::spelling::put_taken;
 use words::refusal;
@@ -27,12 +28,12 @@ fn put_stop(log: &mut [u64], stop: Stop)
     if !stop.released {
         return;
     }
-    if log.len() / 3 <= stop.index {
+    if log.len() / RECORD_WORDS <= stop.index {
         return;
     }
     let made = stop.made;
     let words = record_words(made);
-    put_words(log, stop.index * 3, &words);
+    put_words(log, stop.index * RECORD_WORDS, &words);
 }
 
 fn run_by_value(
@@ -45,7 +46,7 @@ fn run_by_value(
 ) -> Progress
     ensures { λ r. ⌜ RunLogged (runIn (now (words .entry)) (now (operands .entry)) (view m) (now (results .entry)) (now (schedule .entry)) (now (log .entry))) (now (log .entry)) r (now (results .exit)) (now (log .exit)) ⌝ }
 {
-    let room = log.len() / 3;
+    let room = log.len() / RECORD_WORDS;
     let mut run = begun(m, words, operands, results.len());
     let mut going = true;
     while going {
@@ -83,7 +84,7 @@ pub extern "C" fn wethertide_run(
     let run = run_by_value(m, words, operands, results, schedule, log);
     let after = run.machine;
     put_taken(machine, after, run.steps != 0);
-    let told: [u64; 3] = [run.steps as u64, run.place as u64, run.records as u64];
+    let told: [u64; RAN] = [run.steps as u64, run.place as u64, run.records as u64];
     put_words(answer, 0, &told);
     run.refusal
 }

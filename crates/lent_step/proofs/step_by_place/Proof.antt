@@ -44,11 +44,11 @@ use denote.Triple.Clauses.{ensured, lasts}
 use denote.Triple.Table.{entered, cited}
 use denote.Triple.Walked.{says, Stays, stay-dropped, gave-slice, walkOf, AllGo, goes-dropped, goes-gave-slice, Walks, ends-at, walked, walk-meets}
 use denote.Exit.{yes}
-use Rattle.machine_parts.specs.declared.parts.Machine.{Machine}
+use Rattle.machine_parts.specs.declared.Machine.{Machine}
 use Rattle.lent_step.specs.declared.Placed.{Placed}
 use Rattle.lent_step.specs.InPlace.{InPlace}
-use Rattle.machine_parts.proofs.parts.Machine as T
-use Rattle.machine_parts.proofs.parts.Machine.Laws as T′
+use Rattle.machine_parts.proofs.Machine as T
+use Rattle.machine_parts.proofs.Machine.Laws as T′
 use Rattle.lent_run.proofs.Kit.{lies-in, lies-out}
 use Rattle.lent_step.proofs.Placed as S
 use Rattle.lent_step.proofs.Placed.Laws as S′

@@ -43,15 +43,16 @@ use denote.Triple.Clauses.{ensured, lasts}
 use denote.Triple.Table.{entered, cited}
 use denote.Triple.Walked.{says, Stays, stay-ref, stay-dropped, gave-slice, walkOf, AllGo, goes-dropped, goes-gave-slice, goes-ref, Walks, ends-at, walked, walk-meets}
 use denote.Exit.{yes}
+use Rattle.lent_run.proofs.Sizes.{refusalAt}
 use Rattle.machine_steps.specs.Step.{StepAnswer}
-use Rattle.machine_parts.specs.declared.parts.Machine.{Machine}
-use Rattle.machine_parts.specs.declared.parts.Stepped.{Stepped}
+use Rattle.machine_parts.specs.declared.Machine.{Machine}
+use Rattle.machine_parts.specs.declared.Stepped.{Stepped}
 use Rattle.lent_step.proofs.Placing.{placed}
-use Rattle.machine_parts.proofs.parts.Machine as T
-use Rattle.machine_parts.proofs.parts.Machine.Laws as T′
-use Rattle.machine_parts.proofs.parts.Released.Laws as E′
-use Rattle.machine_parts.proofs.parts.Stepped as S
-use Rattle.machine_parts.proofs.parts.Stepped.Laws as S′
+use Rattle.machine_parts.proofs.Machine as T
+use Rattle.machine_parts.proofs.Machine.Laws as T′
+use Rattle.machine_parts.proofs.Released.Laws as E′
+use Rattle.machine_parts.proofs.Stepped as S
+use Rattle.machine_parts.proofs.Stepped.Laws as S′
 use Rattle.machine_steps.proofs.step.step as g
 use Rattle.machine_steps.proofs.step.step.Symbol as g-def
 use Rattle.machine_steps.proofs.step.step.Symbol.{name as #step}
@@ -176,11 +177,11 @@ module _ {M : Type 1} (𝓤 : URA M) (H : Heap 𝓤) (A : Atoms 𝓤) (W : Given
         split ! $ move ! (1 ∷ []) $ heard ! (Said r (zs .1 .1 .1 .0)) (λ e. fsplit ! $ drop ! $ fsplit ! $ drop ! $ fsplit ! $ drop ! $ fsplit ! $ fsplit ! $ move ! (1 ∷ []) $ feqL ! (λ l.
         move ! (2 ∷ []) $ split ! $ move ! (1 ∷ []) $ peeks ! S.the-row (Is S.the-row) (shows 𝓤 H A S.the-row) r (w ∷ []) (λ is. drop ! $
         -- [the tokens; the last list; …; the machine's cell; the open borrow; obs; auth; _9; …; _0; …]
-        land ! (from ! (stop !)) (init ! 13 refl (LL.lawful S.the-type S′.the-laws 𝓤 H A W .typed r _ is .0)) $
+        land ! (from ! (stop !)) (init ! 13 {τ = stepped-ty} {v = w} refl (LL.lawful S.the-type S′.the-laws 𝓤 H A W .typed r _ is .0)) $
         rewrite ! 13 (λ (u : Val). ‵ (fat fullShare stepped-ty l₆ 0 u)) (ap only (LL.tells S.the-type S′.the-laws r (w ∷ []) is)) refl $
         assigns ! (of-opd ! (load ! (from ! (fld ! {τ = T′.mir} {d = 0} refl (stop !))) (look-in ! 13 (sub ! {τs = stepped-tys} 0 {τ = T′.mir} {d = 0} refl (whole !)))))
         (from ! (hop ! (look ! 23 refl) (stop !))) (store-raw ! 3 refl (typed (r .machine) (is-machine r _ is))) $
-        assigns ! (of-opd ! (load ! (from ! (fld ! {τ = tyInt w32} {d = 616} refl (stop !))) (look-in ! 13 (sub ! {τs = stepped-tys} 1 {τ = tyInt w32} {d = 616} refl (whole !))))) (from ! (stop !))
+        assigns ! (of-opd ! (load ! (from ! (fld ! {τ = tyInt w32} {d = refusalAt} refl (stop !))) (look-in ! 13 (sub ! {τs = stepped-tys} 1 {τ = tyInt w32} {d = refusalAt} refl (whole !))))) (from ! (stop !))
         (init ! 25 refl (tt, record { fits = refusal-fits r _ is })) $
         owned ! T.the-row (Is T.the-row) (LL.makes T.the-type T′.the-plain 𝓤 H A) (r .machine) _ (is-machine r _ is) $ move ! (4 ∷ 0 ∷ 5 ∷ 6 ∷ 7 ∷ []) $ closes ! tt T.the-row (r .machine) (val (r .machine) ∷ []) b o $
         -- [obs; the borrow; the machine's token; the other tokens; the last list; …; _9; …]

@@ -6,8 +6,8 @@ use native.Mathlib.Omega.{arith}
 use lib.ListN.{getD}
 use Rattle.theory_machine.specs.Machine.{freeBuffer, isFreeBuffer}
 use Rattle.machine_parts.specs.View.{viewBuffer}
-use Rattle.machine_parts.specs.declared.parts.Buffer.{Buffer}
-use Rattle.machine_parts.specs.declared.parts.BufferState.the-variants.{Free}
+use Rattle.machine_parts.specs.declared.Buffer.{Buffer}
+use Rattle.machine_parts.specs.declared.BufferState.the-variants.{Free}
 use Rattle.machine_parts.proofs.Seen.{seen}
 use Rattle.machine_free.proofs.Search.{Looking, looking-none, looking-more, looking-found, looking-end}
 use borrow.Author.Needs.{needs}

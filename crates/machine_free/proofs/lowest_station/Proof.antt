@@ -8,8 +8,8 @@ use Rattle.numbers.specs.declared.Operation.{Operation}
 use Rattle.theory_machine.specs.Tags.{suits}
 use Rattle.theory_machine.specs.Machine.{freeStation, isFreeStation}
 use Rattle.machine_parts.specs.View.{viewStation}
-use Rattle.machine_parts.specs.declared.parts.Station.{Station}
-use Rattle.machine_parts.specs.declared.parts.StationState.the-variants.{Free}
+use Rattle.machine_parts.specs.declared.Station.{Station}
+use Rattle.machine_parts.specs.declared.StationState.the-variants.{Free}
 use Rattle.machine_parts.proofs.Seen.{seen}
 use Rattle.machine_free.proofs.Search.{Looking, looking-none, looking-more, looking-found, looking-end}
 use borrow.Author.Needs.{needs}

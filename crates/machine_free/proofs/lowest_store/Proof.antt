@@ -6,8 +6,8 @@ use native.Mathlib.Omega.{arith}
 use lib.ListN.{getD}
 use Rattle.theory_machine.specs.Machine.{freeStore, isFreeStore}
 use Rattle.machine_parts.specs.View.{viewStore}
-use Rattle.machine_parts.specs.declared.parts.StoreBuffer.{StoreBuffer}
-use Rattle.machine_parts.specs.declared.parts.StoreState.the-variants.{Free}
+use Rattle.machine_parts.specs.declared.StoreBuffer.{StoreBuffer}
+use Rattle.machine_parts.specs.declared.StoreState.the-variants.{Free}
 use Rattle.machine_parts.proofs.Seen.{seen}
 use Rattle.machine_free.proofs.Search.{Looking, looking-none, looking-more, looking-found, looking-end}
 use borrow.Author.Needs.{needs}

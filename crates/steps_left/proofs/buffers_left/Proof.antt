@@ -5,7 +5,7 @@ use lib.ListN.{length}
 use borrow.Author.Needs.{needs}
 use Rattle.theory_machine.specs.Count.{bufferLeft}
 use Rattle.machine_parts.specs.View.{viewBuffer}
-use Rattle.machine_parts.specs.declared.parts.BufferState.the-variants.{Free}
+use Rattle.machine_parts.specs.declared.BufferState.the-variants.{Free}
 use Rattle.steps_left.proofs.Sums.{sum-seen, Summed, summed-none, summed-more, summed-all, summed-fits}
 use Rattle.steps_left.proofs.Weights.{buffer-weighs}
 use Rattle.steps_left.proofs.buffers_left.Statement.{statement}

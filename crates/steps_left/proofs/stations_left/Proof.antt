@@ -5,7 +5,7 @@ use lib.ListN.{length}
 use borrow.Author.Needs.{needs}
 use Rattle.theory_machine.specs.Count.{stationLeft}
 use Rattle.machine_parts.specs.View.{viewStation}
-use Rattle.machine_parts.specs.declared.parts.StationState.the-variants.{Free}
+use Rattle.machine_parts.specs.declared.StationState.the-variants.{Free}
 use Rattle.steps_left.proofs.Sums.{sum-seen, Summed, summed-none, summed-more, summed-all, summed-fits}
 use Rattle.steps_left.proofs.Weights.{station-weighs}
 use Rattle.steps_left.proofs.stations_left.Statement.{statement}

@@ -5,7 +5,7 @@ use lib.ListN.{length}
 use borrow.Author.Needs.{needs}
 use Rattle.theory_machine.specs.Count.{storeLeft}
 use Rattle.machine_parts.specs.View.{viewStore}
-use Rattle.machine_parts.specs.declared.parts.StoreState.the-variants.{Free}
+use Rattle.machine_parts.specs.declared.StoreState.the-variants.{Free}
 use Rattle.steps_left.proofs.Sums.{sum-seen, Summed, summed-none, summed-more, summed-all, summed-fits}
 use Rattle.steps_left.proofs.Weights.{store-weighs}
 use Rattle.steps_left.proofs.stores_left.Statement.{statement}

@@ -3,7 +3,7 @@ use native.Mathlib.Omega.{arith}
 use borrow.Author.Needs.{needs}
 use Rattle.theory_machine.specs.Machine.{freeBuffer}
 use Rattle.good_order.proofs.Loops.{Passed, passed-none, passed-more, passed-stop, passed-all}
-use Rattle.machine_parts.specs.declared.parts.BufferState.the-variants as buffer
+use Rattle.machine_parts.specs.declared.BufferState.the-variants as buffer
 use Rattle.machine_parts.specs.View.{viewBuffer}
 use Rattle.good_order.specs.SlotRules.{bufferGood}
 use Rattle.good_order.proofs.row_rules.buffers_good.Statement.{statement}

@@ -5,7 +5,7 @@ use borrow.Author.Needs.{needs}
 use Rattle.theory_machine.specs.Machine.{num}
 use Rattle.theory_machine.specs.Binary64.{binary64}
 use Rattle.good_order.proofs.Loops.{Passed, passed-none, passed-more, passed-stop, passed-all}
-use Rattle.machine_parts.specs.declared.parts.Operand.the-variants.{Number}
+use Rattle.machine_parts.specs.declared.Operand.the-variants.{Number}
 use Rattle.machine_parts.specs.View.{viewRegister}
 use Rattle.good_order.specs.SlotRules.{placeIn, registerGood}
 use Rattle.good_order.proofs.row_rules.registers_good.Statement.{statement}

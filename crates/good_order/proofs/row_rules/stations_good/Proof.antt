@@ -3,7 +3,7 @@ use native.Mathlib.Omega.{arith}
 use borrow.Author.Needs.{needs}
 use Rattle.theory_machine.specs.Machine.{freeStation}
 use Rattle.good_order.proofs.Loops.{Passed, passed-none, passed-more, passed-stop, passed-all}
-use Rattle.machine_parts.specs.declared.parts.StationState.the-variants as station
+use Rattle.machine_parts.specs.declared.StationState.the-variants as station
 use Rattle.machine_parts.specs.View.{viewStation}
 use Rattle.good_order.specs.SlotRules.{placeIn, stationGood}
 use Rattle.good_order.proofs.row_rules.stations_good.Statement.{statement}

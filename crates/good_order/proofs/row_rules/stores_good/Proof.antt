@@ -3,7 +3,7 @@ use native.Mathlib.Omega.{arith}
 use borrow.Author.Needs.{needs}
 use Rattle.theory_machine.specs.Machine.{freeStore}
 use Rattle.good_order.proofs.Loops.{Passed, passed-none, passed-more, passed-stop, passed-all}
-use Rattle.machine_parts.specs.declared.parts.StoreState.the-variants as store
+use Rattle.machine_parts.specs.declared.StoreState.the-variants as store
 use Rattle.machine_parts.specs.View.{viewStore}
 use Rattle.good_order.specs.SlotRules.{placeIn, storeGood}
 use Rattle.good_order.proofs.row_rules.stores_good.Statement.{statement}

@@ -42,11 +42,12 @@ use denote.Triple.Spec.{Meets, tripleOf}
 use denote.Triple.Table.{entered}
 use denote.Triple.Walked.{says, Stays, stay-slice, stay-dropped, walkOf, AllGo, goes-slice, goes-dropped, Walks, ends-at, walked, walk-meets}
 use denote.Exit.{yes}
-use Rattle.machine_parts.specs.declared.parts.Record.{Record}
+use Rattle.machine_parts.specs.declared.Record.{Record}
 use lib.Seq.{set-out}
+use Rattle.lent_run.proofs.Sizes.{recordSize}
 use Rattle.lent_run.proofs.Kit.{envAt}
-use Rattle.machine_parts.proofs.parts.Record as T
-use Rattle.machine_parts.proofs.parts.Record.Laws as T′
+use Rattle.machine_parts.proofs.Record as T
+use Rattle.machine_parts.proofs.Record.Laws as T′
 use Rattle.lent_run.proofs.run.put_record.Key.{name as #put-record}
 use Rattle.lent_run.proofs.run.put_record as f
 use Rattle.lent_run.proofs.run.put_record.Statement as stated
@@ -62,8 +63,8 @@ vals = LL.vals T.the-type T′.the-laws
 abbrev val : Record → Val
 val = LL.val T.the-type T′.the-laws
 
--- where a record lies fits: its size is 24
-bytes-fit : {n l : ℕ} → l * 24 < 2 ^ 63 → n < l → n * 24 < 2 ^ 64
+-- where a record lies fits
+bytes-fit : {n l : ℕ} → l * recordSize < 2 ^ 63 → n < l → n * recordSize < 2 ^ 64
 bytes-fit room within = omega arith
 
 module _ {M : Type 1} (𝓤 : URA M) (H : Heap 𝓤) (A : Atoms 𝓤) (W : Given 𝓤 H A) (at-mem : Memory → SProp 𝓤) (run : Routine → Fun 𝓤) (κ : Lft) (q : Share) (b o : ℕ) (γ : GName)

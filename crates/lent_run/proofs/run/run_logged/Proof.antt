@@ -48,18 +48,18 @@ use denote.Triple.Table.{entered, cited}
 use denote.Triple.Walked.{says, Stays, gave-slice, stay-dropped, walkOf, AllGo, goes-gave-slice, goes-dropped, Walks, ends-at, walked, walk-meets}
 use denote.Exit.{yes}
 use borrow.Struct.Items.{made-array}
-use Rattle.machine_parts.specs.declared.parts.Machine.{Machine}
-use Rattle.machine_parts.specs.declared.parts.Record.{Record}
+use Rattle.machine_parts.specs.declared.Machine.{Machine}
+use Rattle.machine_parts.specs.declared.Record.{Record}
 use Rattle.machine_steps.specs.declared.advance.Progress.{Progress}
 use Rattle.lent_run.specs.declared.run.Logged.{Logged}
 use Rattle.lent_run.specs.Run.{RunAnswer}
 use Rattle.lent_run.proofs.Kit.{tyAt, big-lit, lies-in, lies-out}
-use Rattle.machine_parts.proofs.parts.Machine as N
-use Rattle.machine_parts.proofs.parts.Machine.Laws as N′
+use Rattle.machine_parts.proofs.Machine as N
+use Rattle.machine_parts.proofs.Machine.Laws as N′
 use Rattle.machine_steps.proofs.advance.Progress as T
 use Rattle.machine_steps.proofs.advance.Progress.Laws as T′
-use Rattle.machine_parts.proofs.parts.Record as R
-use Rattle.machine_parts.proofs.parts.Record.Laws as R′
+use Rattle.machine_parts.proofs.Record as R
+use Rattle.machine_parts.proofs.Record.Laws as R′
 use Rattle.lent_run.proofs.run.Logged as L
 use Rattle.lent_run.proofs.run.Logged.Laws as L′
 use Rattle.lent_run.proofs.run.run_schedule as g
@@ -102,8 +102,9 @@ rows-val l = only (rows-vals l)
 abbrev logged : Progress → List Record → Logged
 logged r l = record { run = r; log = l }
 
-abbrev val-l : Progress → List Record → Val
-val-l r l = vstruct (vcons (val r) (vcons (rows-val l) vnil))
+-- the answer: the run's value as the call gave it, and the rows
+abbrev val-l : Val → List Record → Val
+val-l u l = vstruct (vcons u (vcons (rows-val l) vnil))
 
 -- what is known of the array: how many records it has, and that a slice of them has room
 count : (l : List Record) (vs : List Val) → Is Rows l vs → length l ≡ 2048
@@ -113,10 +114,16 @@ room : (l : List Record) → length l ≡ 2048 → Room R.the-row (length l)
 room l e = subst (Room R.the-row) (sym e) (lit< tt, lit< tt)
 
 -- what building the answer asks. As a field the array stands at its records' tuples, which `made-array` sees to
-made : (r : Progress) (l : List Record) → Is T.the-row r (val r ∷ []) → Is Rows l (rows-vals l) → WT (rows-val l) → Is L.the-row (logged r l) (val-l r l ∷ [])
-made r l is are wt =
+made-so : (r : Progress) (l : List Record) → Is T.the-row r (val r ∷ []) → Is Rows l (rows-vals l) → WT (rows-val l) → Is L.the-row (logged r l) (val-l (val r) l ∷ [])
+made-so r l is are wt =
     let m = made-array R.the-field R′.the-field-laws 2048 l are wt in
     subst (λ (u : Val). Is L.the-row (logged r l) (vstruct (vcons (val r) (vcons u vnil)) ∷ [])) (sym (m .0)) (LL.owes L.the-type L′.the-laws (logged r l) (is, (m .1, tt)))
+
+-- of a value that stands for the run: it is not looked into, so that the walk does not grow with the machine
+made : (r : Progress) (l : List Record) (u : Val) → Is T.the-row r (u ∷ []) → Is Rows l (rows-vals l) → WT (rows-val l) → Is L.the-row (logged r l) (val-l u l ∷ [])
+made r l u is are wt =
+    let told = LL.tells T.the-type T′.the-laws r (u ∷ []) is in
+    subst (λ (v : Val). Is L.the-row (logged r l) (val-l v l ∷ [])) (sym (ap only told)) (made-so r l (subst (Is T.the-row r) told is) are wt)
 
 -- the contract that the proof cites
 abbrev Callee : {M : Type 1} (𝓤 : URA M) (H : Heap 𝓤) (A : Atoms 𝓤) (mem : Memory → SProp 𝓤) (run : Routine → Fun 𝓤) → Contract 𝓤
@@ -158,6 +165,10 @@ module _ {M : Type 1} (𝓤 : URA M) (H : Heap 𝓤) (A : Atoms 𝓤) (W : Given
   rows-typed : (l : List Record) → Is Rows l (rows-vals l) → Holds (hasTy (tyAt mir.locals 7) (rows-val l)) × WT (rows-val l)
   rows-typed l is = array-lawful 𝓤 H A W R.the-row (LL.lawful R.the-type R′.the-laws 𝓤 H A W) 2048 .typed l _ is .0
 
+  answer-typed : (r : Progress) (u : Val) (l : List Record) → Is T.the-row r (u ∷ []) → Is Rows l (rows-vals l)
+      → Holds (hasTy (tyAt mir.locals 0) (val-l u l)) × WT (val-l u l)
+  answer-typed r u l is are = LL.lawful L.the-type L′.the-laws 𝓤 H A W .typed (logged r l) _ (made r l u is are (rows-typed l are .1)) .0
+
   -- the array lent for ν as a slice, under the name γ, at the address b
   abbrev lent : ℕ → GName → RefT (List Record)
   lent b γ = record { ptr = (b, 0); name = γ; now = lg₀ }
@@ -186,15 +197,15 @@ module _ {M : Type 1} (𝓤 : URA M) (H : Heap 𝓤) (A : Atoms 𝓤) (W : Given
   abbrev Said : Progress → List Float → List Record → Type 0
   Said r cs lg = RunAnswer (ws .now) (os .now) m (rs .now) (sch .now) lg₀ r cs lg
 
-  exits : (r : Progress) (cs : List Float) (lg : List Record) → Said r cs lg → length cs ≡ length (rs .now) → Is T.the-row r (val r ∷ []) → Is Rows lg (rows-vals lg)
-      → ent 𝓤 (⋆ 𝓤 H A (‵ (flft κ₀ q₀) ∷ ‵ (flft κ₁ q₁) ∷ ‵ (flft κ₂ q₂) ∷ ‵ (flft κ₃ q₃) ∷ ‵ (finally f64 (rs .name) cs) ∷ [])) (Post (val-l r lg))
-  exits r cs lg e l is are =
+  exits : (r : Progress) (u : Val) (cs : List Float) (lg : List Record) → Said r cs lg → length cs ≡ length (rs .now) → Is T.the-row r (u ∷ []) → Is Rows lg (rows-vals lg)
+      → ent 𝓤 (⋆ 𝓤 H A (‵ (flft κ₀ q₀) ∷ ‵ (flft κ₁ q₁) ∷ ‵ (flft κ₂ q₂) ∷ ‵ (flft κ₃ q₃) ∷ ‵ (finally f64 (rs .name) cs) ∷ [])) (Post (val-l u lg))
+  exits r u cs lg e l is are =
       qed W (‵ (flft κ₀ q₀) ∷ ‵ (flft κ₁ q₁) ∷ ‵ (flft κ₂ q₂) ∷ ‵ (flft κ₃ q₃) ∷ ‵ (finally f64 (rs .name) cs) ∷ []) ∵
-      suffices ! _ (ends-at 𝓤 H A f.ended stayed (f.clauses 𝓤 H A at-mem run) W (((κ₀, (κ₁, (κ₂, (κ₃, tt)))), (q₀, (q₁, (q₂, (q₃, tt)))), tt, x, at), tt) (val-l r lg) (logged r lg) (tt, (tt, (tt, (cs, (tt, (tt, tt))))))
+      suffices ! _ (ends-at 𝓤 H A f.ended stayed (f.clauses 𝓤 H A at-mem run) W (((κ₀, (κ₁, (κ₂, (κ₃, tt)))), (q₀, (q₁, (q₂, (q₃, tt)))), tt, x, at), tt) (val-l u lg) (logged r lg) (tt, (tt, (tt, (cs, (tt, (tt, tt))))))
       (tt, (tt, (tt, (l, (tt, (tt, tt))))))) $
       says ! e $ nothing ! $ move ! (4 ∷ 0 ∷ []) $ join ! $ move ! (3 ∷ 0 ∷ []) $ join ! $ move ! (2 ∷ 0 ∷ []) $ join ! $ move ! (1 ∷ 0 ∷ []) $ join ! $ frame ! $
       nothing ! $ nothing ! $ fjoin ! $ nothing ! $ fjoin ! $ move ! (1 ∷ 0 ∷ []) $ fjoin ! $ nothing ! $ fjoin ! $ nothing ! $ fjoin ! $ nothing ! $ fjoin ! $
-      owned ! L.the-row (Is L.the-row) (LL.makes L.the-type L′.the-plain 𝓤 H A) (logged r lg) _ (made r lg is are (rows-typed lg are .1)) $ move ! (1 ∷ 0 ∷ []) $ done !
+      owned ! L.the-row (Is L.the-row) (LL.makes L.the-type L′.the-plain 𝓤 H A) (logged r lg) _ (made r lg u is are (rows-typed lg are .1)) $ move ! (1 ∷ 0 ∷ []) $ done !
 
   module _ (C : Calls 𝓤 H) (Λ : Loops 𝓤 H) (fm : FmC 𝓤 H (W .laws) C) (known : Triple 𝓤 (C #run-schedule) (Callee 𝓤 H A at-mem run)) where
     walk : ent 𝓤 (onEntry 𝓤 H A f.signature (κ₀, (κ₁, (κ₂, (κ₃, tt)))) (q₀, (q₁, (q₂, (q₃, tt)))) x at) (WpFn 𝓤 H C Λ code.function passed Post)
@@ -237,8 +248,7 @@ module _ {M : Type 1} (𝓤 : URA M) (H : Heap 𝓤) (A : Atoms 𝓤) (W : Given
         move ! (1 ∷ []) $ fsplit ! $ drop ! $ fsplit ! $ fsplit ! $ move ! (1 ∷ []) $ feqL ! (λ ll.
         move ! (3 ∷ []) $ split ! $ move ! (1 ∷ []) $ peeks ! T.the-row (Is T.the-row) (shows 𝓤 H A T.the-row) r (w ∷ []) (λ is. drop ! $
         -- [the tokens; the log's last list; …; the cells' last list; the lender's part; _13 at 5; …]
-        land ! (from ! (stop !)) (init ! 15 refl (LL.lawful T.the-type T′.the-laws 𝓤 H A W .typed r _ is .0)) $ rewrite ! 15 (λ (u : Val). ‵ (fat fullShare T′.mir l₈ 0 u)) (ap only (LL.tells T.the-type T′.the-laws r (w ∷ []) is)) refl $
-        let run-is : Is T.the-row r (val r ∷ []) = subst (Is T.the-row r) (LL.tells T.the-type T′.the-laws r (w ∷ []) is) is in
+        land ! (from ! (stop !)) (init ! 15 refl (LL.lawful T.the-type T′.the-laws 𝓤 H A W .typed r _ is .0)) $
         -- and taken back
         split ! $ move ! (1 ∷ []) $ split ! $ move ! (1 ∷ []) $ split ! $ move ! (1 ∷ []) $ split ! $ move ! (1 ∷ []) $ split ! $ lft-end ! tt $ move ! (0 ∷ 9 ∷ 6 ∷ []) $
         use3 W (later (‵ (Arr (mem R.the-row) (length lg₀) .lies lg l₇ 0))) (slice-back 𝓤 H A W R.the-row (ν ∷ []) γ lg (length lg₀) l₇ 0) $ await ! tt $ fsplit ! $ drop ! $
@@ -251,13 +261,13 @@ module _ {M : Type 1} (𝓤 : URA M) (H : Heap 𝓤) (A : Atoms 𝓤) (W : Given
         -- [_7; …; the tokens; …; the cells' last list; _13 at 8; …; _8 at 18; …; that _7 dies; _6 at 21; …; room for _0; …]
         assigns ! (of-opd ! (load ! (from ! (stop !)) (look ! 0 refl))) (from ! (stop !)) (init ! 8 refl (rows-typed lg was)) $
         assigns ! (agg ! (and-then ! (load ! (from ! (stop !)) (look ! 18 refl)) (and-then ! (load ! (from ! (stop !)) (look ! 8 refl)) (no-more !)))) (from ! (stop !))
-        (init ! 33 refl (LL.lawful L.the-type L′.the-laws 𝓤 H A W .typed (logged r lg) _ (made r lg run-is was (rows-typed lg was .1)) .0)) $
+        (init ! 33 {τ = tyAt mir.locals 0} {v = val-l w lg} refl (answer-typed r w lg is was)) $
         returns ! (look ! 33 refl) $ forget ! 0 refl $ forget ! 8 refl $ forget ! 10 refl $ forget ! 12 refl $ forget ! 14 refl $ forget ! 16 refl $ forget ! 18 refl $ forget ! 21 refl $ forget ! 23 refl $
         forget ! 25 refl $ forget ! 27 refl $ forget ! 29 refl $ forget ! 31 refl $ forget ! 33 refl $
         move ! (33 ∷ 34 ∷ []) $ free1 ! $ move ! (31 ∷ 32 ∷ []) $ free1 ! $ move ! (29 ∷ 30 ∷ []) $ free1 ! $ move ! (27 ∷ 28 ∷ []) $ free1 ! $ move ! (25 ∷ 26 ∷ []) $ free1 ! $ move ! (23 ∷ 24 ∷ []) $ free1 ! $
         move ! (21 ∷ 22 ∷ []) $ free1 ! $ move ! (0 ∷ 20 ∷ []) $ free1 ! $
         move ! (17 ∷ 18 ∷ []) $ free1 ! $ move ! (15 ∷ 16 ∷ []) $ free1 ! $ move ! (13 ∷ 14 ∷ []) $ free1 ! $ move ! (11 ∷ 12 ∷ []) $ free1 ! $ move ! (9 ∷ 10 ∷ []) $ free1 ! $ move ! (7 ∷ 8 ∷ []) $ free1 ! $ free0 ! $
-        keep ! (4 ∷ 3 ∷ 2 ∷ 1 ∷ 6 ∷ []) $ by ! (exits r cs lg e lc run-is was))))))))))))))))))))))))))
+        keep ! (4 ∷ 3 ∷ 2 ∷ 1 ∷ 6 ∷ []) $ by ! (exits r w cs lg e lc is was))))))))))))))))))))))))))
 
 module _ {M : Type 1} (𝓤 : URA M) (H : Heap 𝓤) (A : Atoms 𝓤) (W : Given 𝓤 H A) (at-mem : Memory → SProp 𝓤) (run : Routine → Fun 𝓤) where
   f-walks : (C : Calls 𝓤 H) (Λ : Loops 𝓤 H) → FmC 𝓤 H (W .laws) C → Triple 𝓤 (C #run-schedule) (Callee 𝓤 H A at-mem run) → Walks 𝓤 H A f.ended stayed (WpFn 𝓤 H C Λ code.function) (f.clauses 𝓤 H A at-mem run)

@@ -38,11 +38,11 @@ use denote.Triple.Table.{entered, cited}
 use denote.Triple.Walked.{AllGo, goes-slice, goes-dropped, Walks, walked, walk-meets}
 use denote.Exit.{yes}
 use Rattle.machine_steps.specs.declared.advance.Progress.{Progress}
-use Rattle.machine_parts.proofs.parts.Machine as N
-use Rattle.machine_parts.proofs.parts.Machine.Laws as N′
+use Rattle.machine_parts.proofs.Machine as N
+use Rattle.machine_parts.proofs.Machine.Laws as N′
 use Rattle.machine_steps.proofs.advance.Progress as T
 use Rattle.machine_steps.proofs.advance.Progress.Laws as T′
-use Rattle.machine_parts.proofs.parts.Record as R
+use Rattle.machine_parts.proofs.Record as R
 use Rattle.machine_steps.proofs.advance.begun as b
 use Rattle.machine_steps.proofs.advance.begun.Symbol as b-def
 use Rattle.machine_steps.proofs.advance.begun.Symbol.{name as #begun}

@@ -2,7 +2,7 @@ use mathlib.Core.Path.{sym}
 use native.Mathlib.Omega.{arith}
 use lib.ListN.{length-append}
 use Rattle.list_file.specs.Writing.{wordBytes}
-use Rattle.list_file.proofs.Shortest.{few-bytes}
+use Rattle.seven_bit.proofs.Shortest.{few-bytes}
 use borrow.Author.Needs.{needs}
 use Rattle.list_file.proofs.writer.word_size.Statement.{statement}
 use Rattle.list_file.proofs.writer.word_size.Tie as tie

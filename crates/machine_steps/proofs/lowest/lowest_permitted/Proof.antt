@@ -13,7 +13,7 @@ use Rattle.theory_machine.specs.Issue.{isTaken}
 use Rattle.theory_machine.specs.Binary64.{binary64}
 use Rattle.theory_machine.specs.Steps.{perform}
 use Rattle.theory_machine.specs.Entries.{lowestPermitted}
-use Rattle.machine_parts.specs.declared.parts.Machine.{Machine}
+use Rattle.machine_parts.specs.declared.Machine.{Machine}
 use Rattle.machine_parts.specs.View.{view, lentWith}
 use Rattle.machine_take.specs.Taking.{Taken, viewTaken, takeFrom}
 use Rattle.machine_take.specs.declared.taking.Taken as declared

@@ -8,9 +8,9 @@ use lib.Ieee.{nan}
 use lib.ListN.{length-map}
 use borrow.Author.Tests.{not-true, not-false}
 use Rattle.machine_parts.specs.View.{view}
-use Rattle.machine_parts.specs.declared.parts.Operand.the-variants.{Number}
-use Rattle.machine_parts.specs.declared.parts.StationState.the-variants as station
-use Rattle.machine_parts.specs.declared.parts.StoreState.the-variants as store
+use Rattle.machine_parts.specs.declared.Operand.the-variants.{Number}
+use Rattle.machine_parts.specs.declared.StationState.the-variants as station
+use Rattle.machine_parts.specs.declared.StoreState.the-variants as store
 use Rattle.seven_bit.specs.Told.{told}
 use Rattle.machine_parts.proofs.Whole.{whole}
 use Rattle.machine_take.proofs.Takes.{begins, at-end, number-stops, step-stops, full-stops, release-stops}

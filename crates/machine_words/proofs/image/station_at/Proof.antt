@@ -21,7 +21,7 @@ returns-3 c =
     let w = c .before .before .before in
     let p = w .before .before .args .place in
     let next : p + 1 + 1 ≡ p + 2 = omega arith in
-    rw (test-left (w .word-or-zero .ensures) (c .before .before .if1 .left), test-left (w .word-or-zero .ensures) (c .before .if2 .left), c .held-at .ensures, next)
+    rw (test-left (w .word-or-zero .ensures) (c .before .before .if1 .left), test-left (w .word-or-zero .ensures) (c .before .if2 .left), c .worked-at .ensures, next)
 
 pub station-at-spec : {M : Type 1} → statement M
 station-at-spec =

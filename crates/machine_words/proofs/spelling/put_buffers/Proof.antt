@@ -1,8 +1,8 @@
 use mathlib.Core.Path.{ap}
 use mathlib.Core.List.{List, map}
 use denote.Ref.{now}
-use Rattle.machine_parts.specs.declared.parts.BufferState.the-variants.{Free}
-use Rattle.machine_parts.specs.declared.parts.Buffer.{Buffer}
+use Rattle.machine_parts.specs.declared.BufferState.the-variants.{Free}
+use Rattle.machine_parts.specs.declared.Buffer.{Buffer}
 use Rattle.machine_parts.specs.View.{viewBuffer}
 use Rattle.machine_words.specs.Image.{buffersOver}
 use Rattle.machine_words.proofs.Rows.{spelt}

@@ -2,8 +2,8 @@ use mathlib.Core.Path.{ap}
 use mathlib.Core.List.{List, map}
 use denote.Ref.{now}
 use lib.Ieee.{nan}
-use Rattle.machine_parts.specs.declared.parts.Operand.the-variants.{Number}
-use Rattle.machine_parts.specs.declared.parts.Register.{Register}
+use Rattle.machine_parts.specs.declared.Operand.the-variants.{Number}
+use Rattle.machine_parts.specs.declared.Register.{Register}
 use Rattle.machine_parts.specs.View.{viewRegister}
 use Rattle.machine_words.specs.Image.{registersOver}
 use Rattle.machine_words.proofs.Rows.{spelt}

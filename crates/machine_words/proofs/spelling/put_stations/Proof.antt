@@ -1,8 +1,8 @@
 use mathlib.Core.Path.{ap}
 use mathlib.Core.List.{List, map}
 use denote.Ref.{now}
-use Rattle.machine_parts.specs.declared.parts.StationState.the-variants.{Free}
-use Rattle.machine_parts.specs.declared.parts.Station.{Station}
+use Rattle.machine_parts.specs.declared.StationState.the-variants.{Free}
+use Rattle.machine_parts.specs.declared.Station.{Station}
 use Rattle.machine_parts.specs.View.{viewStation}
 use Rattle.machine_words.specs.Image.{stationsOver}
 use Rattle.machine_words.proofs.Rows.{spelt}

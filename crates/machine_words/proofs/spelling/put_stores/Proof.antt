@@ -1,8 +1,8 @@
 use mathlib.Core.Path.{ap}
 use mathlib.Core.List.{List, map}
 use denote.Ref.{now}
-use Rattle.machine_parts.specs.declared.parts.StoreState.the-variants.{Free}
-use Rattle.machine_parts.specs.declared.parts.StoreBuffer.{StoreBuffer}
+use Rattle.machine_parts.specs.declared.StoreState.the-variants.{Free}
+use Rattle.machine_parts.specs.declared.StoreBuffer.{StoreBuffer}
 use Rattle.machine_parts.specs.View.{viewStore}
 use Rattle.machine_words.specs.Image.{storesOver}
 use Rattle.machine_words.proofs.Rows.{spelt}

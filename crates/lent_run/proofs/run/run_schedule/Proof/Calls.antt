@@ -30,22 +30,22 @@ use denote.Triple.Spec.{tripleOf}
 use denote.Triple.Statement.{Contract}
 use denote.Triple.Walked.{says, Stays, stay-slice, stay-dropped, walkOf, ends-at}
 use denote.Exit.{yes}
-use Rattle.machine_parts.specs.declared.parts.Machine.{Machine}
-use Rattle.machine_parts.specs.declared.parts.Record.{Record}
+use Rattle.machine_parts.specs.declared.Machine.{Machine}
+use Rattle.machine_parts.specs.declared.Record.{Record}
 use Rattle.machine_steps.specs.declared.advance.Progress.{Progress}
 use Rattle.machine_steps.specs.declared.advance.Stop.{Stop}
 use Rattle.machine_steps.specs.Advance.{beginning, advanced, cellsAfter}
 use Rattle.lent_run.specs.ByReleases.{runs, runByReleases, Final}
 use Rattle.lent_run.proofs.Answers.{run-answers}
 use Rattle.lent_run.proofs.Shaped.{shaped}
-use Rattle.machine_parts.proofs.parts.Machine as N
-use Rattle.machine_parts.proofs.parts.Machine.Laws as N′
+use Rattle.machine_parts.proofs.Machine as N
+use Rattle.machine_parts.proofs.Machine.Laws as N′
 use Rattle.machine_steps.proofs.advance.Progress as T
 use Rattle.machine_steps.proofs.advance.Progress.Laws as T′
 use Rattle.machine_steps.proofs.advance.Stop as S
 use Rattle.machine_steps.proofs.advance.Stop.Laws as S′
-use Rattle.machine_parts.proofs.parts.Record as R
-use Rattle.machine_parts.proofs.parts.Record.Laws as R′
+use Rattle.machine_parts.proofs.Record as R
+use Rattle.machine_parts.proofs.Record.Laws as R′
 use Rattle.machine_steps.proofs.advance.begun as b
 use Rattle.machine_steps.proofs.advance.advance as g
 use Rattle.lent_run.proofs.run.put_record as p

@@ -36,11 +36,12 @@ use denote.Triple.Statement.{Triple}
 use denote.Triple.Call.{calls-at, calls-at-last}
 use denote.Triple.Clauses.{ensured, lasts}
 use denote.Exit.{yes}
-use Rattle.machine_parts.specs.declared.parts.Record.{Record}
+use Rattle.machine_parts.specs.declared.Record.{Record}
 use Rattle.machine_steps.specs.declared.advance.Progress.{Progress}
 use Rattle.machine_steps.specs.declared.advance.Stop.{Stop}
 use Rattle.lent_run.specs.ByReleases.{left}
 use Rattle.lent_run.proofs.Kit.{envAt, tyAt, is-true, is-false}
+use Rattle.lent_run.proofs.Sizes.{madeAt, indexAt, releasedAt}
 use Rattle.lent_run.proofs.Onward.{progress}
 use Rattle.lent_run.proofs.ByReleasesLaws.{goes-on, is-over}
 use Rattle.lent_run.proofs.Again.{LentAgain, lends-again, comes-back}
@@ -48,8 +49,8 @@ use Rattle.machine_steps.proofs.advance.Progress as T
 use Rattle.machine_steps.proofs.advance.Progress.Laws as T′
 use Rattle.machine_steps.proofs.advance.Stop as S
 use Rattle.machine_steps.proofs.advance.Stop.Laws as S′
-use Rattle.machine_parts.proofs.parts.Record as R
-use Rattle.machine_parts.proofs.parts.Record.Laws as R′
+use Rattle.machine_parts.proofs.Record as R
+use Rattle.machine_parts.proofs.Record.Laws as R′
 use Rattle.machine_steps.proofs.advance.advance as g
 use Rattle.machine_steps.proofs.advance.advance.Symbol.{name as #advance}
 use Rattle.lent_run.proofs.run.put_record as p
@@ -170,7 +171,7 @@ module _ {M : Type 1} (𝓤 : URA M) (H : Heap 𝓤) (A : Atoms 𝓤) (W : Given
         rewrite ! 2 (λ (m : ℕ). ‵ (MutSlice (named 2) κ₂ f64 .own (at₂ z γ₂ zs) (sliceVal (b₂, o₂) m ∷ []))) (sym l) refl $ rewrite ! 34 (λ (m : ℕ). ‵ (fat fullShare (tyAt mir.locals 4) l₄ 0 (sliceVal (b₂, o₂) m))) (sym l) refl $
         -- [schedule's token; …; the result cells; the tokens of results, operands, words; …; schedule's, operands', words'; _16 at 10; …; _0 at 42; …; the log's token; what the log owns]
         assigns ! (of-opd ! (load ! (from ! (fld ! {τ = T′.mir} {d = 0} refl (stop !))) (look-in ! 24 (sub ! {τs = stop-tys} 0 {τ = T′.mir} {d = 0} refl (whole !))))) (from ! (stop !)) (store ! 26 refl (typed 𝓤 H A W (y .progress) (is-run y _ is))) $
-        assigns ! (of-opd ! (load ! (from ! (fld ! {τ = tyBool} {d = 688} refl (stop !))) (look-in ! 24 (sub ! {τs = stop-tys} 3 {τ = tyBool} {d = 688} refl (whole !))))) (from ! (stop !)) (init ! 16 refl (tt, tt)) $
+        assigns ! (of-opd ! (load ! (from ! (fld ! {τ = tyBool} {d = releasedAt} refl (stop !))) (look-in ! 24 (sub ! {τs = stop-tys} 3 {τ = tyBool} {d = releasedAt} refl (whole !))))) (from ! (stop !)) (init ! 16 refl (tt, tt)) $
         branches ! (load ! (from ! (stop !)) (look ! 16 refl))
         (λ came. let yes : y .released ≡ true = is-true (y .released) came in
         assigns ! (addr ! (from ! (fld ! refl (hop ! (look-in ! 30 (sub ! 0 refl (whole !))) (stop !))))) (from ! (stop !)) (init ! 12 refl (tt, tt)) $
@@ -183,8 +184,8 @@ module _ {M : Type 1} (𝓤 : URA M) (H : Heap 𝓤) (A : Atoms 𝓤) (W : Given
         move ! (2 ∷ 0 ∷ []) $ use2 W (raw (Put 𝓤 H A at-mem run .pre (to-put 𝓤 H A W at-mem run z lg y ν′ δ′))) (goes-put 𝓤 H A W at-mem run z lg y _ ν′ δ′ is) $
         calls-at-last ! fm (Put 𝓤 H A at-mem run) known-p (to-put 𝓤 H A W at-mem run z lg y ν′ δ′)
         (and-then ! (load ! (from ! (stop !)) (look ! 12 refl))
-        (and-then ! (load ! (from ! (fld ! {τ = tyInt w64} {d = 680} refl (stop !))) (look-in ! 26 (sub ! {τs = stop-tys} 2 {τ = tyInt w64} {d = 680} refl (whole !))))
-        (and-then ! (load ! (from ! (fld ! {τ = R′.mir} {d = 656} refl (stop !))) (look-in ! 26 (sub ! {τs = stop-tys} 1 {τ = R′.mir} {d = 656} refl (whole !)))) (no-more !)))) (λ w′.
+        (and-then ! (load ! (from ! (fld ! {τ = tyInt w64} {d = indexAt} refl (stop !))) (look-in ! 26 (sub ! {τs = stop-tys} 2 {τ = tyInt w64} {d = indexAt} refl (whole !))))
+        (and-then ! (load ! (from ! (fld ! {τ = R′.mir} {d = madeAt} refl (stop !))) (look-in ! 26 (sub ! {τs = stop-tys} 1 {τ = R′.mir} {d = madeAt} refl (whole !)))) (no-more !)))) (λ w′.
         use1 W (later (some (λ (t : Bool). ((‵ (flft (ν′ ∷ []) fullShare) ⊛ ‵ ftrue) ⊛ ‵ (bool .own t (w′ ∷ []))) ⊛ raw (ensured 𝓤 H A p.ended (p.clauses 𝓤 H A at-mem run) (ν′ ∷ [], tt) (put z lg y δ′) tt t)))) (id⊢ 𝓤 _) $ await ! tt $ pick ! (λ t.
         split ! $ move ! (1 ∷ []) $ use1 W (some (λ (us : List Record × (Unit {0} × (Unit {0} × Unit {0}))). ‵ (lasts p.ended (ν′ ∷ [], tt) (put z lg y δ′) us) ⊛ raw (fact 𝓤 (Stored lg y t (us .0))))) (id⊢ 𝓤 _) $ pick ! (λ us.
         split ! $ move ! (1 ∷ []) $ heard ! (Stored lg y t (us .0)) (λ e′. fsplit ! $ fsplit ! $ move ! (1 ∷ []) $ feqL ! (λ l′.

@@ -6,13 +6,13 @@ use native.Mathlib.Omega.{arith}
 use denote.Ref.{now}
 use lib.ListN.{length, length-map}
 use Rattle.machine_parts.specs.View.{view, lentWith}
-use Rattle.machine_parts.specs.declared.parts.Released.the-variants.{Nothing}
+use Rattle.machine_parts.specs.declared.Released.the-variants.{Nothing}
 use Rattle.machine_take.specs.Taking.{takeFrom}
 use Rattle.seven_bit.specs.SevenBits.{accepted, numberAt}
 use Rattle.seven_bit.specs.Told.{told}
 use Rattle.theory_machine.specs.Machine.{Shape}
 use Rattle.theory_machine.specs.Issue.{taken}
-use Rattle.machine_parts.specs.declared.parts.Machine.{Machine}
+use Rattle.machine_parts.specs.declared.Machine.{Machine}
 use Rattle.machine_take.proofs.Forwards.{moves-on}
 use Rattle.machine_take.proofs.Takes.{Here, goes-on}
 use Rattle.machine_bus.proofs.Given.{Giving, given-all}

@@ -1,8 +1,8 @@
 use native.Mathlib.Omega.{arith}
 use borrow.Author.Needs.{needs}
 use Rattle.machine_parts.proofs.Adders.{no-station, adder-index, other-index}
-use Rattle.machine_parts.proofs.parts.Tag.suits.Statement.{statement}
-use Rattle.machine_parts.proofs.parts.Tag.suits.Tie as tie
+use Rattle.machine_parts.proofs.Tag.suits.Statement.{statement}
+use Rattle.machine_parts.proofs.Tag.suits.Tie as tie
 
 returns : tie.Need-returns
 returns c = no-station (c .before .args .index) (omega arith) (c .before .args .operation)

@@ -1,7 +1,7 @@
 use borrow.Author.Tests.{lt-ltb, le-ltb}
 use borrow.Author.Needs.{needs}
-use Rattle.machine_parts.proofs.parts.Tag.of_buffer.Statement.{statement}
-use Rattle.machine_parts.proofs.parts.Tag.of_buffer.Tie as tie
+use Rattle.machine_parts.proofs.Tag.of_buffer.Statement.{statement}
+use Rattle.machine_parts.proofs.Tag.of_buffer.Tie as tie
 
 cast-t3 : tie.Need-cast-t3
 cast-t3 c = search needs

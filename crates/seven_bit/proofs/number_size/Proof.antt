@@ -1,9 +1,9 @@
 use mathlib.Core.Path.{sym, ap}
 use native.Mathlib.Omega.{arith}
 use lib.ListN.{length}
-use Rattle.list_file.proofs.Shortest.{bytes-one, bytes-two, bytes-three}
-use Rattle.list_file.proofs.writer.number_size.Statement.{statement}
-use Rattle.list_file.proofs.writer.number_size.Tie as tie
+use Rattle.seven_bit.proofs.Shortest.{bytes-one, bytes-two, bytes-three}
+use Rattle.seven_bit.proofs.number_size.Statement.{statement}
+use Rattle.seven_bit.proofs.number_size.Tie as tie
 
 returns : tie.Need-returns
 returns c = sym (ap length (bytes-one _ (c .if1 .taken)))
