@@ -7,7 +7,7 @@ use Rattle.words.specs.Check.{listCheck}
 use Rattle.theory_machine.specs.Tags.{registerCount}
 use Rattle.theory_machine.specs.Machine.{Kind, Lent, areasOf}
 use Rattle.theory_machine.specs.OneAtATime.{Run, runTo}
-use Rattle.theory_machine.specs.Entries.{Fresh, OneAtATime, emptyMachine, listRefusal, fresh, oneAtATime}
+use Rattle.theory_machine.specs.Entries.{emptyMachine, listRefusal, fresh, oneAtATime}
 use Rattle.theory_machine.proofs.Entries.{refused-entries, fresh-is, one-at-a-time-is}
 
 module _ (K : Kind) (L : Lent (K .Num)) {v : Verdict} (e : v ≡ listCheck (areasOf L) (L .words)) where

@@ -8,7 +8,7 @@ use native.Mathlib.Omega.{arith}
 use lib.Dec.{eqb, ltb, leb}
 use lib.Ieee.{Float}
 use lib.ListN.{length}
-use borrow.Author.Tests.{eq-eqb, ne-eqb, lt-ltb, le-ltb, ltb-true}
+use borrow.Author.Tests.{lt-ltb, le-ltb, ltb-true}
 use Rattle.seven_bit.specs.SevenBits.{Parsed, accepted, refused, numberAt}
 use Rattle.theory_machine.specs.Machine as theory
 use Rattle.theory_machine.specs.Machine.{Lent}
@@ -21,7 +21,6 @@ use Rattle.machine_parts.specs.declared.Machine.{Machine}
 use Rattle.machine_parts.specs.declared.Record.{Record}
 use Rattle.machine_parts.specs.declared.Released.the-variants.{Nothing, One}
 use Rattle.machine_parts.specs.View.{view, viewReleased, lentWith}
-use Rattle.machine_parts.specs.Back.{machineOf}
 use Rattle.machine_parts.proofs.Exact.{back}
 use Rattle.machine_steps.specs.declared.advance.Progress.{Progress}
 use Rattle.machine_steps.specs.declared.advance.Stop.{Stop}

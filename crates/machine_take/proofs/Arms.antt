@@ -1,19 +1,17 @@
 -- What each change does to the machine of the code is what the step does to its view.
-use mathlib.Core.Path.{_≡_, refl, sym, ap, _∙_}
-use mathlib.Core.Bool.{true, false}
+use mathlib.Core.Path.{_≡_, ap}
 use mathlib.Core.Option.{some}
-use mathlib.Core.List.{map}
-use Prim.Native.Nat.{ℕ, _+_, _-_, _≤_, _<_}
+use Prim.Native.Nat.{ℕ, _-_, _≤_, _<_}
 use native.Mathlib.Numerals.{add-one}
 use native.Mathlib.Omega.{arith}
 use lib.Ieee.{Float, nan}
-use lib.ListN.{length, getD, set, length-set}
+use lib.ListN.{length, getD, length-set}
 use Rattle.numbers.specs.declared.Operation.{Operation}
 use Rattle.theory_machine.specs.Tags.{registerCount, firstBuffer, lastBuffer, firstStation, lastStation, bufferTag, stationTag, Slot, neither, buffer, station, slotOf}
 use Rattle.theory_machine.specs.Machine.{Lent, Shape, tag, waiting, full, holding, done, live, freeBuffer, freeStation, freeStore}
 use Rattle.theory_machine.specs.Binary64.{binary64}
 use Rattle.theory_machine.specs.Issue.{taken}
-use Rattle.theory_machine.specs.Steps.{perform, granted, giveStation}
+use Rattle.theory_machine.specs.Steps.{perform, granted}
 use Rattle.theory_machine.proofs.Tags.{SlotView, is-buffer, is-station, slot-view}
 use Rattle.machine_parts.specs.Altered.{onward, putRegister, putBuffer, putStation, putStore}
 use Rattle.machine_parts.specs.View.{viewRegister, viewBuffer, viewStation, viewStore, view, viewRecord}
@@ -29,7 +27,7 @@ use Rattle.machine_parts.specs.declared.Station.{Station}
 use Rattle.machine_parts.specs.declared.StoreBuffer.{StoreBuffer}
 use Rattle.machine_parts.proofs.Seen.{map-set}
 use Rattle.machine_take.specs.declared.change.Change.{Change}
-use Rattle.machine_take.specs.declared.change.Change.the-variants.{Refused, Loads, TakesCell, Copies, TakesRegister, Stores, Arrives, Completes, Gives, Releases}
+use Rattle.machine_take.specs.declared.change.Change.the-variants.{Loads, TakesCell, Copies, TakesRegister, Stores, Arrives, Completes, Gives, Releases}
 use Rattle.machine_take.specs.Changes.{Named, changed, Within, Grows, Changes}
 use Rattle.machine_take.proofs.Issued.{register-seen}
 

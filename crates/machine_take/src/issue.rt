@@ -14,7 +14,6 @@ use machine_parts::Tag;
 use words::Areas;
 use words::Form;
 use words::refusal;
-ghost use mathlib.Core.Path.{_≡_};
 ghost use Rattle.machine_parts.specs.View.{lentWith};
 ghost use Rattle.machine_take.specs.Changes.{instructionFor, RegistersIn, Issues, IssuesNext};
 

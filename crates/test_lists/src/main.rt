@@ -4,6 +4,7 @@ use libc::STDOUT_FILENO;
 use list_file::reader::read;
 use list_file::writer::write;
 use words::Areas;
+use words::LIST_LIMIT;
 use words::Verdict;
 use words::check_list;
 use words::check_list_against;
@@ -154,7 +155,7 @@ fn one_list(bytes: &[u8], kind: u8) {
         list_file(bytes, &mut short, &mut back);
         return;
     }
-    let mut long = [7u32; 4096];
+    let mut long = [7u32; LIST_LIMIT];
     list_file(bytes, &mut long, &mut back);
 }
 

@@ -90,19 +90,19 @@ fn changed(m: Machine, nine: [usize; 9]) -> Machine {
         return n;
     }
     if kind == 1 {
-        if index < 4 {
+        if index < Register::COUNT {
             n.registers[index] = Register { operand: sink };
         }
         return n;
     }
     if kind < 4 {
-        if index < 6 {
+        if index < Tag::BUFFERS {
             n.buffers[index] = buffer_of(kind, place, cell, number);
         }
         return n;
     }
     if kind < 6 {
-        if index < 5 {
+        if index < Tag::STATIONS {
             let operation = operation_of(nine[4]);
             n.stations[index] = station_of(
                 kind,
@@ -117,7 +117,7 @@ fn changed(m: Machine, nine: [usize; 9]) -> Machine {
         }
         return n;
     }
-    if index < 3 {
+    if index < StoreBuffer::COUNT {
         n.stores[index] = StoreBuffer {
             state: StoreState::Live(Pending {
                 place,

@@ -9,7 +9,7 @@ use lib.ListN.{length, getD, set, List·getD-map, length-set}
 use lib.Seq.{getD-set-same, getD-set-other}
 use Rattle.theory_machine.specs.Tags.{registerCount, bufferTag, stationTag}
 use Rattle.theory_machine.specs.Instruction.{Instruction, noInstruction, load, store, copy, cellArithmetic, registerArithmetic}
-use Rattle.theory_machine.specs.Machine.{Kind, Lent, areasOf, Operand, num, tag, Buffer, waiting, Station, holding, StoreBuffer, freeStore, live, Machine, nextIs, storesAre, putStore, Shape, storeAt, registerAt, storeCell}
+use Rattle.theory_machine.specs.Machine.{Kind, Lent, areasOf, num, StoreBuffer, freeStore, live, Machine, nextIs, storesAre, putStore, Shape, storeAt, registerAt, storeCell}
 use Rattle.theory_machine.specs.GoodOrder.{giverOf}
 use Rattle.theory_machine.specs.Issue.{instructionAt}
 use Rattle.theory_machine.specs.Steps.{giveStore}

@@ -8,10 +8,9 @@ use borrow.Author.Tests.{eq-eqb, ne-eqb}
 use Rattle.words.specs.declared.Areas.{Areas}
 use Rattle.words.specs.Check.{firstOf, listCheck}
 use Rattle.words.proofs.Passes.{none-first}
-use Rattle.theory_machine.specs.Machine.{Kind, Lent, areasOf, Machine}
+use Rattle.theory_machine.specs.Machine.{Kind, Machine}
 use Rattle.theory_machine.specs.GoodOrder.{goodOrder}
-use Rattle.theory_machine.specs.Steps.{inOrder}
-use Rattle.theory_machine.specs.Entries.{listRefusal, entryRefusal, refusalOfEntry}
+use Rattle.theory_machine.specs.Entries.{entryRefusal}
 
 module _ (K : Kind) (words : List ℕ) (areas : Areas) (m : Machine (K .Num)) where
   pub by-list : (listCheck areas words .refusal ≡ 0 → ⊥) → entryRefusal K words areas m ≡ listCheck areas words .refusal

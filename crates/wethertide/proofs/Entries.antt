@@ -5,7 +5,6 @@ use mathlib.Core.List.{List, [], _∷_}
 use Prim.Native.Nat.{ℕ}
 use lib.Dec.{eqb}
 use lib.Ieee.{Float}
-use lib.ListN.{length}
 use lib.Seq.{sets}
 use borrow.Author.Tests.{eq-eqb, ne-eqb}
 use Rattle.theory_machine.specs.Machine as theory
@@ -20,7 +19,7 @@ use Rattle.machine_parts.specs.View.{view, lent, viewStepped, viewReleased}
 use Rattle.machine_steps.specs.Step.{StepAnswer}
 use Rattle.machine_steps.specs.declared.advance.Progress.{Progress}
 use Rattle.machine_words.specs.Image.{machineIn, imageOver}
-use Rattle.wethertide.specs.Entries.{releasedWords, StepWords, stepIn, RunWords, RunLogged, runIn}
+use Rattle.wethertide.specs.Entries.{releasedWords, StepWords, stepIn, RunWords, RunLogged}
 
 -- a row that was altered by an answer, as the answer on paper alters it
 pub carried : {A B : Type 0} (altered : A → B → B) {row row′ : B} {x y : A} → row′ ≡ altered x row → x ≡ y → row′ ≡ altered y row
