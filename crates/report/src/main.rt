@@ -1,61 +1,9 @@
 // The report program of document 01. It is given three names: list, operands and schedule. Names after the third are ignored.
 use libc::STDOUT_FILENO;
+use named_file::read_named;
 use report_text::FilesFound;
 use report_text::report::PAGE;
 use report_text::report::report;
-ghost use Prim.Native.Nat.{_≤_};
-ghost use lib.ListN.{length};
-
-// What was read of a file: whether it was named, opened and read to its end or to the buffer's, and how many bytes.
-struct FileRead {
-    found: bool,
-    size: usize,
-}
-
-fn missing() -> FileRead
-    ensures { λ r. ⌜ r .size ≤ 0 ⌝ }
-{
-    FileRead {
-        found: false,
-        size: 0,
-    }
-}
-
-// Whether a read fails, as of a folder: the end of a file is no failure.
-fn fails(fd: i32) -> bool {
-    let mut byte = [0u8; 1];
-    libc::read(fd, &mut byte) < 0
-}
-
-fn read_opened(fd: i32, bytes: &mut [u8]) -> FileRead
-    ensures { λ r. ⌜ r .size ≤ length (now (bytes .entry)) ⌝ }
-{
-    let size = io::read_full(fd, bytes);
-    if size < bytes.len() {
-        if fails(fd) {
-            return missing();
-        }
-    }
-    FileRead { found: true, size }
-}
-
-// The file that the program's argument i names.
-fn read_named(i: usize, bytes: &mut [u8]) -> FileRead
-    ensures { λ r. ⌜ r .size ≤ length (now (bytes .entry)) ⌝ }
-{
-    if os::arg_count() <= i {
-        return missing();
-    }
-    let mut name = io::buffer();
-    let n = os::arg(i, &mut name);
-    let fd = os::open_read(&name[..n]);
-    if fd < 0 {
-        return missing();
-    }
-    let taken = read_opened(fd, bytes);
-    libc::close(fd);
-    taken
-}
 
 // What cannot be written is told on standard error.
 fn write_out(text: &[u8]) {

@@ -1,29 +1,25 @@
 -- Where a report begins: the list as read, and the first fault of all.
 use mathlib.Core.Path.{_≡_, refl, sym, ap, _∙_}
-use mathlib.Core.Bool.{Bool, true, false, cond}
+use mathlib.Core.Bool.{Bool, true, false}
 use mathlib.Core.List.{List}
-use Prim.Native.Nat.{ℕ, _*_, _/_, _≤_, _<_}
+use Prim.Native.Nat.{ℕ, _≤_, _<_}
 use native.Mathlib.Omega.{arith}
-use lib.Dec.{ltb}
-use lib.Ieee.{Float}
-use lib.ListN.{length, take, drop}
-use lib.Seq.{sets, take-append-seam}
-use borrow.Author.Tests.{ltb-false, eq-eqb, ne-eqb}
+use lib.ListN.{length}
+use borrow.Author.Tests.{eq-eqb, ne-eqb}
 use Rattle.words.specs.declared.Verdict.{Verdict}
 use Rattle.list_file.specs.declared.ListRead.{ListRead}
 use Rattle.seven_bit.specs.SevenBits.{Parsed, accepted, refused}
 use Rattle.list_file.specs.Reading.{fieldAt, wordsAt, countRefusal, listIn, answered, readAnswer, readWords}
 use Rattle.list_file.proofs.Inverse.{field-of, then-of}
 use Rattle.list_file.proofs.Words.{as-many}
-use Rattle.list_file.proofs.Passed.{sets-over, count-of}
+use Rattle.list_file.proofs.Passed.{count-of}
 use Rattle.list_file.proofs.RoundTrip.{is-read}
-use Rattle.theory_report.specs.declared.Fault.{Fault}
-use Rattle.theory_report.specs.declared.Fault.the-variants.{Nothing, Missing, Refused}
-use Rattle.theory_report.specs.Operands.{operandsIn}
-use Rattle.theory_report.specs.Report.{isFault, orStopped, fileFault, readFault, listFault, wordsIn, operandsFault, verdictFault}
+use Rattle.printing.specs.declared.Fault.{Fault}
+use Rattle.printing.specs.declared.Fault.the-variants.{Nothing, Missing, Refused}
+use Rattle.printing.specs.Lines.{isFault, orStopped}
+use Rattle.theory_report.specs.Report.{fileFault, readFault, listFault, wordsIn, verdictFault}
 use Rattle.report_text.specs.Files.{given, ListIs}
 use Rattle.report_text.proofs.FileFaults.{fault-missing, fault-long, fault-own}
-use Rattle.report_text.proofs.Joining.{length-numbers}
 
 -- FAULTS
 pub no-fault : (fault : Fault) → isFault fault ≡ false → fault ≡ Nothing
@@ -45,19 +41,6 @@ not-none fault e n = absurd (let z : _≡_ {A = Bool} true false = sym e ∙ ap 
 pub was-found : (found : Bool) (bytes : List ℕ) (own : List ℕ → Fault) → fileFault (given found bytes) own ≡ Nothing → found ≡ true
 was-found true bytes own e = refl
 was-found false bytes own e = not-none Missing refl e
-
--- an operands file without a fault has at most 2,048 bytes
-pub few-bytes : (found : Bool) (bytes : List ℕ) → fileFault (given found bytes) operandsFault ≡ Nothing → length bytes ≤ 2048
-few-bytes false bytes e = not-none Missing refl e
-few-bytes true bytes e = go (ltb 65536 (length bytes)) (ltb 2048 (length bytes)) refl e
-  where
-    go : (s t : Bool) → ltb 2048 (length bytes) ≡ t
-        → cond s (Refused 11 65536)
-        (cond t (Refused 4 2048) (cond (ltb (length bytes / 8 * 8) (length bytes)) (Refused 8 (length bytes / 8 * 8)) Nothing)) ≡ Nothing
-        → length bytes ≤ 2048
-    go true t q e = not-none (Refused 11 65536) refl e
-    go false true q e = not-none (Refused 4 2048) refl e
-    go false false q e = ltb-false 2048 (length bytes) q
 
 pub verdict-passes : (v : Verdict) → v .refusal ≡ 0 → Nothing ≡ verdictFault v
 verdict-passes v e = rw (eq-eqb (v .refusal) 0 e)
@@ -110,12 +93,3 @@ module _ (bytes : List ℕ) (found : Bool) (buffer : List ℕ) where
             words = λ z. rw (a, w) (r .back ∙ v);
             few = omega (arith, n, list-few 4096 bytes l);
           }
-
--- THE OPERANDS: the numbers of a file that is short enough stand at the front of the cells
-pub front-numbers : (bytes : List ℕ) (cells₀ : List Float) {cells : List Float} {count : ℕ} → length bytes ≤ 2048 → length cells₀ ≡ 256
-    → count ≡ length (operandsIn bytes) → cells ≡ sets cells₀ 0 (operandsIn bytes) → (take count cells ≡ operandsIn bytes) × (count ≤ 256)
-front-numbers bytes cells₀ {cells} {count} h n c e =
-    let k : length (operandsIn bytes) ≡ length bytes / 8 = length-numbers (length bytes / 8) bytes 0 in (
-      rw (c, e, sets-over (operandsIn bytes) cells₀ (omega arith)) (take-append-seam (operandsIn bytes) (drop (length (operandsIn bytes)) cells₀)),
-      omega arith,
-    )

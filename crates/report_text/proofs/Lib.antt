@@ -1,9 +1,8 @@
-pub mod Putting
-pub mod Decimals
+pub mod Whole
 pub mod Rows
-pub mod Joining
 pub mod FileFaults
 pub mod Beginning
+pub mod Cells
 pub mod Stages
 pub mod ToldRun
 pub mod Determined

@@ -6,21 +6,21 @@ use Prim.Native.Nat.{ℕ, _≤_}
 use native.Mathlib.Omega.{arith}
 use lib.Ieee.{Float}
 use lib.ListN.{length, take}
-use lib.Seq.{sets}
 use Rattle.words.specs.Check.{listCheck}
 use Rattle.theory_machine.specs.Machine.{Lent}
 use Rattle.list_file.specs.Reading.{listIn}
-use Rattle.theory_report.specs.declared.Fault.{Fault}
-use Rattle.theory_report.specs.declared.Fault.the-variants.{Nothing}
+use Rattle.operands_file.specs.Operands.{operandsIn}
+use Rattle.printing.specs.declared.Fault.{Fault}
+use Rattle.printing.specs.declared.Fault.the-variants.{Nothing}
 use Rattle.theory_report.specs.Words as word
-use Rattle.theory_report.specs.Operands.{operandsIn}
-use Rattle.theory_report.specs.Report.{isFault, orStopped, fileFault, listFault, operandsFault, scheduleFault, wordsIn, lentOfFiles, areasFault, verdictFault, runOf, ranText, reportText}
+use Rattle.printing.specs.Lines.{isFault, orStopped}
+use Rattle.theory_report.specs.Report.{fileFault, listFault, operandsFault, scheduleFault, wordsIn, lentOfFiles, areasFault, verdictFault, runOf, ranText, reportText}
 use Rattle.report_text.specs.declared.FilesFound.{FilesFound}
 use Rattle.report_text.specs.declared.begin.Name.{Name}
 use Rattle.report_text.specs.declared.begin.Name.the-variants as name
 use Rattle.report_text.specs.declared.begin.Begun.{Begun}
 use Rattle.report_text.specs.Files.{reportLent, given, nameText, textOf, Begins}
-use Rattle.report_text.proofs.Beginning.{only-line, not-none, was-found, few-bytes, front-numbers}
+use Rattle.report_text.proofs.Beginning.{only-line, not-none, was-found}
 
 module _ (found : FilesFound) (list operands schedule : List ℕ) where
   abbrev first : Fault
@@ -74,20 +74,19 @@ module _ (found : FilesFound) (list operands schedule : List ℕ) where
             let c = was-found (found .schedule) schedule scheduleFault three in
             rw (one, two, three, a, b, c)
 
-        pub begun : {buffer : List ℕ} (cells₀ : List Float) {cells : List Float} {count numbers : ℕ} {fault : Fault}
+        pub begun : {buffer : List ℕ} {cells : List Float} {count numbers : ℕ} {fault : Fault}
             → take count buffer ≡ wordsIn (listIn 4096 list) → count ≤ 4096
-            → length cells₀ ≡ 256 → numbers ≡ length (operandsIn operands) → cells ≡ sets cells₀ 0 (operandsIn operands)
+            → take numbers cells ≡ operandsIn operands → numbers ≡ length (operandsIn operands) → numbers ≤ 256
             → fault ≡ verdictFault (listCheck (record { operands = numbers; results = 256 }) (take count buffer))
             → Begins found list operands schedule buffer cells (record { name = name.Areas; fault = fault; words = count; operands = numbers })
-        begun {buffer} cells₀ {cells} {count} {numbers} {fault} w n r k e f =
-            let front = front-numbers operands cells₀ (few-bytes (found .operands) operands two) r k e in
+        begun {buffer} {cells} {count} {numbers} {fault} w n m k l f =
             let same : fault ≡ areasFault (lentOfFiles list operands) = f ∙ rw (w, k) in
             record {
               text = all-good ∙ rw (← same);
               words = λ z. w;
-              numbers = λ z. front .0;
+              numbers = λ z. m;
               fewWords = n;
-              fewNumbers = front .1;
+              fewNumbers = l;
             }
 
 -- what the beginning says of the report's text

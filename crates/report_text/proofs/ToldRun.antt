@@ -17,7 +17,8 @@ use Rattle.machine_parts.specs.View.{view, viewRecord, lent}
 use Rattle.machine_steps.specs.declared.advance.Progress.{Progress}
 use Rattle.lent_run.specs.Run.{Shows, RunAnswer}
 use Rattle.theory_report.specs.Report.{pageText, ranText, nought, startOf, runOf}
-use Rattle.report_text.specs.Put.{PutIn, pageRoom}
+use Rattle.printing.specs.Put.{PutIn}
+use Rattle.report_text.specs.Put.{pageRoom}
 use Rattle.report_text.specs.Files.{reportLent}
 
 map-take : (n : ℕ) (log : List Record) → map viewRecord (take n log) ≡ take n (map viewRecord log)

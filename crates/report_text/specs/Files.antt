@@ -5,15 +5,16 @@ use mathlib.Core.Option.{Option, none, some}
 use mathlib.Core.List.{List}
 use Prim.Native.Nat.{ℕ, _≤_}
 use lib.Ieee.{Float}
-use lib.ListN.{take}
+use lib.ListN.{length, take}
 use Rattle.words.specs.Instructions.{cellLimit, listLimit}
 use Rattle.list_file.specs.Reading.{listIn}
 use Rattle.theory_machine.specs.Machine.{Lent}
-use Rattle.theory_report.specs.declared.Fault.{Fault}
-use Rattle.theory_report.specs.declared.Fault.the-variants.{Nothing}
+use Rattle.operands_file.specs.Operands.{operandsIn}
+use Rattle.printing.specs.declared.Fault.{Fault}
+use Rattle.printing.specs.declared.Fault.the-variants.{Nothing}
 use Rattle.theory_report.specs.Words as word
-use Rattle.theory_report.specs.Operands.{operandsIn}
-use Rattle.theory_report.specs.Report.{fileFault, listFault, orStopped, wordsIn, lentOfFiles, runOf, ranText, reportText}
+use Rattle.printing.specs.Lines.{orStopped}
+use Rattle.theory_report.specs.Report.{fileFault, listFault, operandsFault, wordsIn, lentOfFiles, runOf, ranText, reportText}
 use Rattle.report_text.specs.declared.FilesFound.{FilesFound}
 use Rattle.report_text.specs.declared.begin.Name.{Name}
 use Rattle.report_text.specs.declared.begin.Name.the-variants as name
@@ -39,6 +40,13 @@ pub record ListIs (found : Bool) (bytes buffer : List ℕ) (fault : Fault) (coun
   pub is : fault ≡ fileFault (given found bytes) listFault
   pub words : fault ≡ Nothing → take count buffer ≡ wordsIn (listIn listLimit bytes)
   pub few : count ≤ listLimit
+
+-- the operands as read: their fault; without one, the numbers stand at the front of the cells
+pub record CellsAre (found : Bool) (bytes : List ℕ) (cells : List Float) (fault : Fault) (count : ℕ) : Type 0 where
+  pub is : fault ≡ fileFault (given found bytes) operandsFault
+  pub numbers : fault ≡ Nothing → take count cells ≡ operandsIn bytes
+  pub counted : fault ≡ Nothing → count ≡ length (operandsIn bytes)
+  pub few : count ≤ cellLimit
 
 -- WHERE A REPORT BEGINS: its text is the stop line of the fault found; without a fault it is that of the run, the list stands at the front of
 -- the word buffer, and the operands stand at the front of the cells

@@ -1,57 +1,36 @@
--- What only the code's contracts cite: text stored at a place of a row of bytes.
+-- What only the code's contracts cite: the text of a report in lent bytes.
 use mathlib.Core.Path.{_≡_}
 use mathlib.Core.Bool.{cond}
 use mathlib.Core.List.{List}
-use Prim.Native.Nat.{ℕ, _+_, _≤_}
+use Prim.Native.Nat.{ℕ, _+_, _*_, _≤_}
 use lib.Dec.{ltb}
 use lib.ListN.{length}
-use lib.Seq.{sets}
 use Rattle.list_file.specs.Reading.{over}
+use Rattle.printing.specs.Words.{space, lineEnd}
+use Rattle.printing.specs.Put.{decimalLimit, patternLimit, answerLimit, countLimit}
+use Rattle.theory_report.specs.Words as word
 
--- there is room for the text
-pub record Room (bytes : List ℕ) (at : ℕ) (text : List ℕ) : Type 0 where
-  pub fits : at + length text ≤ length bytes
-
--- it stands there, nothing else has changed, and `end` is the place after it
-pub record Put (before after : List ℕ) (at end : ℕ) (text : List ℕ) : Type 0 where
-  pub ends : end ≡ at + length text
-  pub laid : after ≡ sets before at text
-
--- the same of a text that is at most so long
-pub record PutIn (limit : ℕ) (before after : List ℕ) (at end : ℕ) (text : List ℕ) : Type 0 where
-  pub put : Put before after at end text
-  pub short : length text ≤ limit
-
--- LIMITS, for numbers of 64 bits, which have at most 20 digits: a label or a name; "N at PLACE" and the line's end; a label, a number and the
--- line's end; the refusal's line; "tag N"; a register's line; four of them; the head; a record's line
-abbrev pub labelLimit : ℕ
-labelLimit = 8
-
-abbrev pub answerLimit : ℕ
-answerLimit = 45
-
-abbrev pub countLimit : ℕ
-countLimit = 29
-
+-- LIMITS, each its parts' together: the refusal's line; "tag N", which is longer than a pattern; a register's line; four of them; the head; a
+-- record's line
 abbrev pub refusalLimit : ℕ
-refusalLimit = 53
+refusalLimit = length word.refusal + answerLimit
 
 abbrev pub tagLimit : ℕ
-tagLimit = 24
+tagLimit = length word.tagged + decimalLimit
 
 abbrev pub registerLimit : ℕ
-registerLimit = 47
+registerLimit = length word.register + decimalLimit + length space + tagLimit + length lineEnd
 
 abbrev pub registersLimit : ℕ
-registersLimit = 188
+registersLimit = 4 * registerLimit
 
 abbrev pub headLimit : ℕ
-headLimit = 328
+headLimit = countLimit word.steps + refusalLimit + countLimit word.left + registersLimit + countLimit word.log
 
 abbrev pub recordLimit : ℕ
-recordLimit = 59
+recordLimit = decimalLimit + length space + decimalLimit + length space + patternLimit + length lineEnd
 
--- bytes that are enough for every report: the head and 2,048 records take at most 121,160
+-- bytes that are enough for every report: the head and 2,048 records take at most 121,151
 abbrev pub pageRoom : ℕ
 pageRoom = 131072
 

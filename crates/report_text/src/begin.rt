@@ -1,11 +1,10 @@
 // What a report begins with: the list and the operands read, and the first fault of all (01, "The report program").
 use crate::FilesFound;
 use crate::faults::FILE_LIMIT;
-use crate::faults::operands_fault;
 use crate::faults::schedule_fault;
-use crate::operands::read_operands;
 use list_file::reader::read;
-use theory_report::Fault;
+use operands_file::read_operands;
+use printing::Fault;
 use words::Areas;
 use words::CELL_LIMIT;
 use words::check_list_against;
@@ -14,8 +13,9 @@ ghost use mathlib.Core.Path.{_≡_};
 ghost use lib.ListN.{length};
 ghost use Rattle.words.specs.Instructions.{cellLimit};
 ghost use Rattle.words.specs.Check.{listCheck};
-ghost use Rattle.theory_report.specs.Report.{isFault, verdictFault};
-ghost use Rattle.report_text.specs.Files.{ListIs, Begins};
+ghost use Rattle.printing.specs.Lines.{isFault};
+ghost use Rattle.theory_report.specs.Report.{verdictFault};
+ghost use Rattle.report_text.specs.Files.{ListIs, CellsAre, Begins};
 
 // What a stop line names.
 pub enum Name {
@@ -25,8 +25,8 @@ pub enum Name {
     Areas,
 }
 
-// The list as read: its fault, and how many words.
-pub struct ListFound {
+// The list or the operands as read: the fault, and how many words or numbers.
+pub struct Found {
     pub fault: Fault,
     pub count: usize,
 }
@@ -50,32 +50,62 @@ pub(crate) fn stops(fault: Fault) -> bool
 }
 
 // Missing, then 11, then what the reader says.
-fn read_list(bytes: &[u8], found: bool, words: &mut [u32]) -> ListFound
+fn read_list(bytes: &[u8], found: bool, words: &mut [u32]) -> Found
     requires { ⌜ length (now words) ≡ 4096 ⌝ }
     ensures { λ r. ⌜ ListIs found (now (bytes .entry)) (now (words .exit)) (r .fault) (r .count) ⌝ }
 {
     if !found {
-        return ListFound {
+        return Found {
             fault: Fault::Missing,
             count: 0,
         };
     }
     if FILE_LIMIT < bytes.len() {
-        return ListFound {
+        return Found {
             fault: Fault::Refused(refusal::ROOM, FILE_LIMIT),
             count: 0,
         };
     }
     let list = read(bytes, words);
     if list.refusal != 0 {
-        return ListFound {
+        return Found {
             fault: Fault::Refused(list.refusal, list.place),
             count: 0,
         };
     }
-    ListFound {
+    Found {
         fault: Fault::Nothing,
         count: list.count,
+    }
+}
+
+// Missing, then 11, then what the reader says.
+fn read_cells(bytes: &[u8], found: bool, cells: &mut [f64]) -> Found
+    requires { ⌜ length (now cells) ≡ 256 ⌝ }
+    ensures { λ r. ⌜ CellsAre found (now (bytes .entry)) (now (cells .exit)) (r .fault) (r .count) ⌝ }
+{
+    if !found {
+        return Found {
+            fault: Fault::Missing,
+            count: 0,
+        };
+    }
+    if FILE_LIMIT < bytes.len() {
+        return Found {
+            fault: Fault::Refused(refusal::ROOM, FILE_LIMIT),
+            count: 0,
+        };
+    }
+    let operands = read_operands(bytes, cells);
+    if operands.refusal != 0 {
+        return Found {
+            fault: Fault::Refused(operands.refusal, operands.place),
+            count: 0,
+        };
+    }
+    Found {
+        fault: Fault::Nothing,
+        count: operands.count,
     }
 }
 
@@ -124,7 +154,8 @@ pub(crate) fn begin(
     if stops(fault) {
         return at_fault(Name::List, fault);
     }
-    let second = operands_fault(operands, named.operands);
+    let numbers = read_cells(operands, named.operands, cells);
+    let second = numbers.fault;
     if stops(second) {
         return at_fault(Name::Operands, second);
     }
@@ -132,13 +163,12 @@ pub(crate) fn begin(
     if stops(third) {
         return at_fault(Name::Schedule, third);
     }
-    let numbers = read_operands(operands, cells);
     let count = found.count;
-    let last = areas_fault(&words[..count], numbers);
+    let last = areas_fault(&words[..count], numbers.count);
     Begun {
         name: Name::Areas,
         fault: last,
         words: count,
-        operands: numbers,
+        operands: numbers.count,
     }
 }

@@ -1,9 +1,7 @@
 // The report of document 01 as text in a lent row of bytes.
 mod begin;
 mod faults;
-mod operands;
 mod page;
-mod put;
 pub mod report;
 mod stop;
 mod told;

@@ -1,38 +1,20 @@
 // The lines of a report, each stored at a place of the lent bytes.
-use crate::put::put_decimal;
-use crate::put::put_pattern;
-use crate::put::put_text;
 use machine_parts::Operand;
 use machine_parts::Record;
 use machine_parts::Register;
+use printing::lines::put_answer;
+use printing::lines::put_count;
+use printing::put::put_decimal;
+use printing::put::put_pattern;
+use printing::put::put_text;
 ghost use mathlib.Core.List.{map};
 ghost use Prim.Native.Nat.{_+_, _*_, _≤_};
 ghost use lib.ListN.{length, take};
 ghost use Rattle.machine_parts.specs.View.{viewOperand, viewRegister, viewRecord};
-ghost use Rattle.theory_report.specs.Report.{answerText, countLine, refusalLine, headText, pageText, operandText, registerLine, registerLines, recordLine, recordLines};
+ghost use Rattle.theory_report.specs.Report.{refusalLine, headText, pageText, operandText, registerLine, registerLines, recordLine, recordLines};
 ghost use Rattle.theory_machine.specs.Machine.{tag};
-ghost use Rattle.report_text.specs.Put.{PutIn, labelLimit, answerLimit, countLimit, refusalLimit, tagLimit, registerLimit, registersLimit, headLimit, recordLimit, pageRoom};
-
-// A refusal number and its place, to the line's end.
-pub(crate) fn put_answer(out: &mut [u8], at: usize, number: u32, place: usize) -> usize
-    requires { ⌜ at + answerLimit ≤ length (now out) ⌝ }
-    ensures { λ r. ⌜ PutIn answerLimit (now (out .entry)) (now (out .exit)) at r (answerText number place) ⌝ }
-{
-    let second = put_decimal(out, at, number as usize);
-    let third = put_text(out, second, b" at ");
-    let fourth = put_decimal(out, third, place);
-    put_text(out, fourth, b"\n")
-}
-
-// A label and a number.
-fn put_count(out: &mut [u8], at: usize, label: &[u8], n: usize) -> usize
-    requires { ⌜ (length (now label) ≤ labelLimit) × (at + countLimit ≤ length (now out)) ⌝ }
-    ensures { λ r. ⌜ PutIn countLimit (now (out .entry)) (now (out .exit)) at r (countLine (now (label .entry)) n) ⌝ }
-{
-    let second = put_text(out, at, label);
-    let third = put_decimal(out, second, n);
-    put_text(out, third, b"\n")
-}
+ghost use Rattle.printing.specs.Put.{PutIn};
+ghost use Rattle.report_text.specs.Put.{refusalLimit, tagLimit, registerLimit, registersLimit, headLimit, recordLimit, pageRoom};
 
 fn put_refusal(out: &mut [u8], at: usize, number: u32, place: usize) -> usize
     requires { ⌜ at + refusalLimit ≤ length (now out) ⌝ }

@@ -14,7 +14,8 @@ ghost use Rattle.theory_machine.specs.Entries.{stepsLeft};
 ghost use Rattle.theory_machine.specs.Binary64.{binary64};
 ghost use Rattle.machine_parts.specs.View.{view, viewRecord, lent};
 ghost use Rattle.theory_report.specs.Report.{startOf, runOf, ranText, pageText};
-ghost use Rattle.report_text.specs.Put.{PutIn, pageRoom};
+ghost use Rattle.printing.specs.Put.{PutIn};
+ghost use Rattle.report_text.specs.Put.{pageRoom};
 ghost use Rattle.report_text.specs.Files.{reportLent};
 
 // All registers start at +0.

@@ -8,12 +8,14 @@ use lib.ListN.{length}
 use lib.Ieee.{Float}
 use borrow.Author.Tests.{lt-ltb, le-ltb}
 use Rattle.theory_machine.specs.Machine.{Lent}
-use Rattle.theory_report.specs.declared.Fault.{Fault}
-use Rattle.theory_report.specs.declared.Fault.the-variants.{Nothing}
-use Rattle.theory_report.specs.Text.{decimal}
+use Rattle.operands_file.specs.Operands.{operandsLimit}
+use Rattle.printing.specs.declared.Fault.{Fault}
+use Rattle.printing.specs.declared.Fault.the-variants.{Nothing}
+use Rattle.printing.specs.Text.{decimal}
+use Rattle.printing.specs.Words as common
+use Rattle.printing.specs.Lines.{orStopped}
 use Rattle.theory_report.specs.Words as word
-use Rattle.theory_report.specs.Operands.{operandsLimit}
-use Rattle.theory_report.specs.Report.{fileLimit, fileFault, listFault, operandsFault, scheduleFault, areasFault, bytesIn, lentOfFiles, runOf, ranText, orStopped, reportText}
+use Rattle.theory_report.specs.Report.{fileLimit, fileFault, listFault, operandsFault, scheduleFault, areasFault, bytesIn, lentOfFiles, runOf, ranText, reportText}
 use Rattle.theory_report.specs.Theorem.{FaultsInOrder, Stopped, FirstShown, FirstAtFault}
 
 -- so many whole patterns
@@ -25,7 +27,7 @@ grouped a b c d e f g = simp append-assoc
 
 module _ (name further : List ℕ) (fault : Fault) where
   stop-line : Stopped name fault (orStopped fault name further)
-  stop-line = record { missing = λ e. rw e (simp append-assoc); refused = λ number place e. rw e (grouped word.stopped name word.space (decimal number) word.at (decimal place) word.lineEnd) }
+  stop-line = record { missing = λ e. rw e (simp append-assoc); refused = λ number place e. rw e (grouped common.stopped name common.space (decimal number) common.at (decimal place) common.lineEnd) }
 
   past : fault ≡ Nothing → orStopped fault name further ≡ further
   past e = rw e

@@ -1,8 +1,8 @@
 -- THE TEXT OF A REPORT (document 01, "The report program"): what the program prints of three files, each `none` where it is missing.
-use mathlib.Core.Bool.{Bool, true, false, cond}
+use mathlib.Core.Bool.{cond}
 use mathlib.Core.Option.{Option, none, some}
 use mathlib.Core.List.{List, [], _∷_, _++_}
-use Prim.Native.Nat.{ℕ, _+_, _*_, _/_}
+use Prim.Native.Nat.{ℕ, _+_}
 use lib.Dec.{ltb, eqb}
 use lib.ListN.{length, replicate}
 use lib.Ieee.{Float}
@@ -12,38 +12,19 @@ use Rattle.words.specs.declared.Verdict.{Verdict}
 use Rattle.words.specs.Check.{listCheck}
 use Rattle.seven_bit.specs.SevenBits.{Parsed, accepted, refused}
 use Rattle.list_file.specs.Reading.{listIn}
+use Rattle.operands_file.specs.Operands.{operandsIn}
+use Rattle.operands_file.specs.Reading.{operandsVerdict}
+use Rattle.printing.specs.declared.Fault.{Fault}
+use Rattle.printing.specs.declared.Fault.the-variants.{Nothing, Missing, Refused}
+use Rattle.printing.specs.Text.{decimal, pattern}
+use Rattle.printing.specs.Words.{space, lineEnd}
+use Rattle.printing.specs.Lines.{answerText, countLine, orStopped}
 use Rattle.theory_machine.specs.Tags.{registerCount}
 use Rattle.theory_machine.specs.Machine.{Lent, areasOf, Operand, num, tag, Machine, Record}
 use Rattle.theory_machine.specs.Entries.{fresh, stepsLeft}
 use Rattle.theory_machine.specs.Binary64.{binary64}
 use Rattle.theory_run.specs.Run.{ScheduleRun, run}
-use Rattle.theory_report.specs.declared.Fault.{Fault}
-use Rattle.theory_report.specs.declared.Fault.the-variants.{Nothing, Missing, Refused}
-use Rattle.theory_report.specs.Text.{decimal, pattern}
-use Rattle.theory_report.specs.Operands.{patternSize, operandsLimit, operandsIn}
-use Rattle.theory_report.specs.Words.{stopped, missing, at, list, operands, schedule, areas, steps, refusal, left, log, register, tagged, space, lineEnd}
-
--- a refusal number and its place, to the line's end
-abbrev pub answerText : (number place : ℕ) → List ℕ
-answerText number place = decimal number ++ at ++ decimal place ++ lineEnd
-
--- STOP LINES: "`stopped NAME missing`", "`stopped NAME 11 at 65536`"
-abbrev pub missingLine : (name : List ℕ) → List ℕ
-missingLine name = stopped ++ name ++ missing ++ lineEnd
-
-abbrev pub refusedLine : (name : List ℕ) (number place : ℕ) → List ℕ
-refusedLine name number place = stopped ++ name ++ space ++ answerText number place
-
--- "Each is the only line.": at a fault its line, else what follows
-abbrev pub orStopped : Fault → (name further : List ℕ) → List ℕ
-orStopped Nothing name further = further
-orStopped Missing name further = missingLine name
-orStopped (Refused number place) name further = refusedLine name number place
-
-abbrev pub isFault : Fault → Bool
-isFault Nothing = false
-isFault Missing = true
-isFault (Refused number place) = true
+use Rattle.theory_report.specs.Words.{list, operands, schedule, areas, steps, refusal, left, log, register, tagged}
 
 -- FAULTS OF A FILE: "in one file missing comes first, then 11, 4, 8"
 abbrev pub fileLimit : ℕ
@@ -62,13 +43,13 @@ readFault (refused number place) = Refused number place
 abbrev pub listFault : List ℕ → Fault
 listFault bytes = readFault (listIn listLimit bytes)
 
+-- a check's verdict: its number and place, or no fault
+abbrev pub verdictFault : Verdict → Fault
+verdictFault v = cond (eqb (v .refusal) 0) Nothing (Refused (v .refusal) (v .place))
+
 -- "operands above 2,048 bytes give 4 at 2048, and a cut pattern gives 8 at its start"
 abbrev pub operandsFault : List ℕ → Fault
-operandsFault bytes =
-    let whole = length bytes / patternSize * patternSize in
-    cond (ltb operandsLimit (length bytes)) (Refused 4 operandsLimit)
-    (cond (ltb whole (length bytes)) (Refused 8 whole)
-    Nothing)
+operandsFault bytes = verdictFault (operandsVerdict (length bytes))
 
 -- a schedule's own refusals are the run's to show
 abbrev pub scheduleFault : List ℕ → Fault
@@ -88,9 +69,6 @@ abbrev pub lentOfFiles : (list operands : List ℕ) → Lent Float
 lentOfFiles list operands = record { words = wordsIn (listIn listLimit list); operands = operandsIn operands; results = cellLimit }
 
 -- "one refused against the areas gives `stopped areas N at PLACE`, with the word's place"
-abbrev pub verdictFault : Verdict → Fault
-verdictFault v = cond (eqb (v .refusal) 0) Nothing (Refused (v .refusal) (v .place))
-
 abbrev pub areasFault : Lent Float → Fault
 areasFault L = verdictFault (listCheck (areasOf L) (L .words))
 
@@ -109,9 +87,6 @@ unfoldable pub runOf : Lent Float → (schedule : List ℕ) → ScheduleRun Floa
 runOf L schedule = run binary64 L logRoom schedule (startOf L) (replicate cellLimit nought)
 
 -- LINES: "steps done; refusal and byte place; steps left; registers; records; then each record's place, cell and pattern"
-abbrev pub countLine : (label : List ℕ) (n : ℕ) → List ℕ
-countLine label n = label ++ decimal n ++ lineEnd
-
 abbrev pub refusalLine : (number place : ℕ) → List ℕ
 refusalLine number place = refusal ++ answerText number place
 

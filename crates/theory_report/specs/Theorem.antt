@@ -8,10 +8,10 @@ use lib.Ieee.{Float}
 use Rattle.seven_bit.specs.SevenBits.{accepted, refused}
 use Rattle.list_file.specs.Reading.{listIn}
 use Rattle.theory_machine.specs.Machine.{Lent}
-use Rattle.theory_report.specs.declared.Fault.{Fault}
-use Rattle.theory_report.specs.declared.Fault.the-variants.{Nothing, Missing, Refused}
-use Rattle.theory_report.specs.Ascii.{ascii}
-use Rattle.theory_report.specs.Text.{decimal}
+use Rattle.printing.specs.declared.Fault.{Fault}
+use Rattle.printing.specs.declared.Fault.the-variants.{Nothing, Missing, Refused}
+use Rattle.printing.specs.Ascii.{ascii}
+use Rattle.printing.specs.Text.{decimal}
 use Rattle.theory_report.specs.Report.{fileFault, listFault, operandsFault, scheduleFault, areasFault, bytesIn, lentOfFiles, runOf, ranText, reportText}
 
 -- "in one file missing comes first, then 11, 4, 8": the fault of each file, by its bytes alone

@@ -1,16 +1,7 @@
--- The words of a report's lines.
+-- The words of a report's own lines.
 use mathlib.Core.List.{List}
 use Prim.Native.Nat.{ℕ}
-use Rattle.theory_report.specs.Ascii.{ascii}
-
-abbrev pub stopped : List ℕ
-stopped = ascii "stopped "
-
-abbrev pub missing : List ℕ
-missing = ascii " missing"
-
-abbrev pub at : List ℕ
-at = ascii " at "
+use Rattle.printing.specs.Ascii.{ascii}
 
 abbrev pub list : List ℕ
 list = ascii "list"
@@ -41,9 +32,3 @@ register = ascii "F"
 
 abbrev pub tagged : List ℕ
 tagged = ascii "tag "
-
-abbrev pub space : List ℕ
-space = ascii " "
-
-abbrev pub lineEnd : List ℕ
-lineEnd = ascii "\n"

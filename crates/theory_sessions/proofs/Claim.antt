@@ -14,8 +14,8 @@ use Rattle.theory_machine.specs.Steps.{perform, step}
 use Rattle.theory_machine.specs.Count.{countLeft}
 use Rattle.theory_machine.specs.Entries.{fresh, oneAtATime, stepsLeft, entryRefusal, lowestPermitted, lowestStep}
 use Rattle.theory_run.specs.Run.{run, runFrom}
-use Rattle.theory_report.specs.Text.{decimal, pattern}
-use Rattle.theory_report.specs.Operands.{patternAt}
+use Rattle.printing.specs.Text.{decimal, pattern}
+use Rattle.operands_file.specs.Operands.{patternAt}
 use Rattle.theory_report.specs.Report.{registerLine, recordLine, runOf, reportText}
 use Rattle.theory_sessions.specs.Session.{seen}
 use Rattle.theory_sessions.specs.Table.{Claim}

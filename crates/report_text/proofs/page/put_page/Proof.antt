@@ -1,6 +1,6 @@
 use native.Mathlib.Omega.{arith}
 use borrow.Author.Needs.{needs}
-use Rattle.report_text.proofs.Putting.{in-then, in-more}
+use Rattle.printing.proofs.Putting.{in-then, in-more}
 use Rattle.report_text.proofs.Rows.{records-count}
 use Rattle.report_text.proofs.page.put_page.Statement.{statement}
 use Rattle.report_text.proofs.page.put_page.Tie as tie

@@ -3,8 +3,9 @@ use Prim.Native.Nat.{_-_, _*_, _≤_}
 use native.Mathlib.Omega.{arith}
 use borrow.Author.Needs.{needs}
 use lib.ListN.{length}
-use Rattle.report_text.specs.Put.{PutIn, recordLimit}
-use Rattle.report_text.proofs.Putting.{put-none, put-length, within, in-then, left-room}
+use Rattle.printing.specs.Put.{PutIn}
+use Rattle.report_text.specs.Put.{recordLimit}
+use Rattle.printing.proofs.Putting.{put-none, put-length, within, in-then, left-room}
 use Rattle.report_text.proofs.Rows.{firstLines, first-next, limit-next}
 use Rattle.report_text.proofs.page.put_records.Statement.{statement}
 use Rattle.report_text.proofs.page.put_records.Tie as tie

@@ -1,6 +1,6 @@
 use Rattle.report_text.proofs.Rows.{four-lines}
 use borrow.Author.Needs.{needs}
-use Rattle.report_text.proofs.Putting.{in-then}
+use Rattle.printing.proofs.Putting.{in-then}
 use Rattle.report_text.proofs.page.put_registers.Statement.{statement}
 use Rattle.report_text.proofs.page.put_registers.Tie as tie
 

@@ -3,7 +3,7 @@ use native.Mathlib.Omega.{arith}
 use lib.Seq.{length-take-le}
 use Rattle.report_text.proofs.Beginning.{no-fault}
 use Rattle.report_text.proofs.Stages.{stop-text, run-text}
-use Rattle.report_text.proofs.Putting.{printed-none, printed-put}
+use Rattle.report_text.proofs.Whole.{printed-none, printed-put}
 use borrow.Author.Needs.{needs}
 use Rattle.report_text.proofs.report.report.Statement.{statement}
 use Rattle.report_text.proofs.report.report.Tie as tie

@@ -1,0 +1,5 @@
+pub mod Ascii
+pub mod Text
+pub mod Words
+pub mod Lines
+pub mod Put
