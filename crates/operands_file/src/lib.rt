@@ -1,4 +1,5 @@
 // The operands file of document 01 ("The report program"): big-endian patterns of 8 bytes, at most 256.
+use words::CELL_LIMIT;
 use words::Verdict;
 use words::refusal;
 ghost use mathlib.Core.Path.{_≡_};
@@ -10,7 +11,8 @@ ghost use Rattle.operands_file.specs.Reading.{operandsVerdict, readAnswe
 
 const PATTERN_SIZE: usize = 8;
 
-const OPERANDS_LIMIT: usize = 2048;
+// "operands above 2,048 bytes"
+const OPERANDS_LIMIT: usize = CELL_LIMIT * PATTERN_SIZE;
 
 // The reader's answer: a refusal number of 01, 0 for accepted, with its place; and how many numbers were stored.
 pub struct OperandsRead {

@@ -1,14 +1,16 @@
 // Lines of numbers, each stored at a place of the lent bytes, or not at all where there is no room.
+use crate::put::DECIMAL_LIMIT;
 use crate::put::put_decimal;
 use crate::put::put_text;
 use crate::room::has_room;
 ghost use Rattle.printing.specs.Lines.{answerText, countLine};
 ghost use Rattle.printing.specs.Put.{PutIfRoom, answerLimit, countLimit};
 
-const ANSWER_LIMIT: usize = 45;
+// Two numbers, what stands between them, and the line's end.
+pub(crate) const ANSWER_LIMIT: usize = DECIMAL_LIMIT + 4 + DECIMAL_LIMIT + 1;
 
 // Of a count without its label: the digits and the line's end.
-const COUNT_LIMIT: usize = 21;
+const COUNT_LIMIT: usize = DECIMAL_LIMIT + 1;
 
 // A refusal number and its place, to the line's end.
 pub fn put_answer(out: &mut [u8], at: usize, number: u32, place: usize) -> usize

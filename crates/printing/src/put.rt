@@ -8,7 +8,7 @@ ghost use Rattle.printing.specs.Text as text;
 ghost use Rattle.printing.specs.Text.{decimal, hexadecimal, pattern};
 ghost use Rattle.printing.specs.Put.{PutIfRoom, Room, Put, decimalLimit, patternLimit};
 
-const DECIMAL_LIMIT: usize = 20;
+pub(crate) const DECIMAL_LIMIT: usize = 20;
 
 const PATTERN_LIMIT: usize = 16;
 

@@ -1,5 +1,6 @@
 // Stop lines (01, "The report program"): what stopped a program, each the only line that it prints.
 use crate::Fault;
+use crate::lines::ANSWER_LIMIT;
 use crate::lines::put_answer;
 use crate::put::put_text;
 use crate::room::has_room;
@@ -7,8 +8,8 @@ ghost use mathlib.Core.List.{[]};
 ghost use Rattle.printing.specs.Lines.{missingLine, refusedLine, orStopped};
 ghost use Rattle.printing.specs.Put.{PutIfRoom, stopLimit};
 
-// Of a stop line without its name.
-const STOP_LIMIT: usize = 54;
+// Of a stop line without its name: its first word, a space, and a refusal with its place.
+const STOP_LIMIT: usize = 8 + 1 + ANSWER_LIMIT;
 
 fn put_missing(out: &mut [u8], at: usize, name: &[u8]) -> usize
     ensures { λ r. ⌜ PutIfRoom (stopLimit (now (name .entry))) (now (out .entry)) (now (out .exit)) at r (missingLine (now (name .entry))) ⌝ }

@@ -11,7 +11,7 @@ use words::check_list_against;
 use words::refusal;
 ghost use mathlib.Core.Path.{_≡_};
 ghost use lib.ListN.{length};
-ghost use Rattle.words.specs.Instructions.{cellLimit};
+ghost use Rattle.words.specs.Instructions.{cellLimit, listLimit};
 ghost use Rattle.words.specs.Check.{listCheck};
 ghost use Rattle.printing.specs.Lines.{isFault};
 ghost use Rattle.theory_report.specs.Report.{verdictFault};
@@ -51,7 +51,7 @@ pub(crate) fn stops(fault: Fault) -> bool
 
 // Missing, then 11, then what the reader says.
 fn read_list(bytes: &[u8], found: bool, words: &mut [u32]) -> Found
-    requires { ⌜ length (now words) ≡ 4096 ⌝ }
+    requires { ⌜ length (now words) ≡ listLimit ⌝ }
     ensures { λ r. ⌜ ListIs found (now (bytes .entry)) (now (words .exit)) (r .fault) (r .count) ⌝ }
 {
     if !found {
@@ -81,7 +81,7 @@ fn read_list(bytes: &[u8], found: bool, words: &mut [u32]) -> Found
 
 // Missing, then 11, then what the reader says.
 fn read_cells(bytes: &[u8], found: bool, cells: &mut [f64]) -> Found
-    requires { ⌜ length (now cells) ≡ 256 ⌝ }
+    requires { ⌜ length (now cells) ≡ cellLimit ⌝ }
     ensures { λ r. ⌜ CellsAre found (now (bytes .entry)) (now (cells .exit)) (r .fault) (r .count) ⌝ }
 {
     if !found {
@@ -146,7 +146,7 @@ pub(crate) fn begin(
     words: &mut [u32],
     cells: &mut [f64],
 ) -> Begun
-    requires { ⌜ (length (now words) ≡ 4096) × (length (now cells) ≡ 256) ⌝ }
+    requires { ⌜ (length (now words) ≡ listLimit) × (length (now cells) ≡ cellLimit) ⌝ }
     ensures { λ r. ⌜ Begins named (now (list .entry)) (now (operands .entry)) (now (schedule .entry)) (now (words .exit)) (now (cells .exit)) r ⌝ }
 {
     let found = read_list(list, named.list, words);

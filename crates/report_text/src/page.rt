@@ -1,4 +1,5 @@
 // The lines of a report, each stored at a place of the lent bytes.
+use lent_run::run::LOG_ROOM;
 use machine_parts::Operand;
 use machine_parts::Record;
 use machine_parts::Register;
@@ -11,7 +12,7 @@ ghost use mathlib.Core.List.{map};
 ghost use Prim.Native.Nat.{_+_, _*_, _≤_};
 ghost use lib.ListN.{length, take};
 ghost use Rattle.machine_parts.specs.View.{viewOperand, viewRegister, viewRecord};
-ghost use Rattle.theory_report.specs.Report.{refusalLine, headText, pageText, operandText, registerLine, registerLines, recordLine, recordLines};
+ghost use Rattle.theory_report.specs.Report.{refusalLine, headText, pageText, operandText, registerLine, registerLines, recordLine, recordLines, logRoom};
 ghost use Rattle.theory_machine.specs.Machine.{tag};
 ghost use Rattle.printing.specs.Put.{PutIn};
 ghost use Rattle.report_text.specs.Put.{refusalLimit, tagLimit, registerLimit, registersLimit, headLimit, recordLimit, pageRoom};
@@ -55,7 +56,7 @@ fn put_register(out: &mut [u8], at: usize, number: usize, register: Register) ->
     put_text(out, fifth, b"\n")
 }
 
-fn put_registers(out: &mut [u8], at: usize, registers: [Register; 4]) -> usize
+fn put_registers(out: &mut [u8], at: usize, registers: [Register; Register::COUNT]) -> usize
     requires { ⌜ at + registersLimit ≤ length (now out) ⌝ }
     ensures { λ r. ⌜ PutIn registersLimit (now (out .entry)) (now (out .exit)) at r (registerLines 0 (map viewRegister registers)) ⌝ }
 {
@@ -78,8 +79,8 @@ fn put_record(out: &mut [u8], at: usize, released: Record) -> usize
 }
 
 // The first records of a log.
-fn put_records(out: &mut [u8], at: usize, count: usize, log: [Record; 2048]) -> usize
-    requires { ⌜ (count ≤ 2048) × (at + count * recordLimit ≤ length (now out)) ⌝ }
+fn put_records(out: &mut [u8], at: usize, count: usize, log: [Record; LOG_ROOM]) -> usize
+    requires { ⌜ (count ≤ logRoom) × (at + count * recordLimit ≤ length (now out)) ⌝ }
     ensures { λ r. ⌜ PutIn (count * recordLimit) (now (out .entry)) (now (out .exit)) at r (recordLines (map viewRecord (take count log))) ⌝ }
 {
     let mut end = at;
@@ -98,7 +99,7 @@ fn put_head(
     refusal: u32,
     place: usize,
     left: usize,
-    registers: [Register; 4],
+    registers: [Register; Register::COUNT],
     records: usize,
 ) -> usize
     requires { ⌜ headLimit ≤ length (now out) ⌝ }
@@ -118,11 +119,11 @@ pub(crate) fn put_page(
     refusal: u32,
     place: usize,
     left: usize,
-    registers: [Register; 4],
+    registers: [Register; Register::COUNT],
     records: usize,
-    log: [Record; 2048],
+    log: [Record; LOG_ROOM],
 ) -> usize
-    requires { ⌜ (records ≤ 2048) × (pageRoom ≤ length (now out)) ⌝ }
+    requires { ⌜ (records ≤ logRoom) × (pageRoom ≤ length (now out)) ⌝ }
     ensures { λ r. ⌜ PutIn pageRoom (now (out .entry)) (now (out .exit)) 0 r (pageText steps refusal place left (map viewRegister registers) (map viewRecord (take records log))) ⌝ }
 {
     let second = put_head(out, steps, refusal, place, left, registers, records);

@@ -4,6 +4,8 @@ use crate::begin::begin;
 use crate::begin::stops;
 use crate::stop::put_stop;
 use crate::told::told_run;
+use words::CELL_LIMIT;
+use words::LIST_LIMIT;
 ghost use Rattle.report_text.specs.Put.{Printed};
 ghost use Rattle.report_text.specs.Files.{textOf};
 
@@ -22,8 +24,8 @@ pub fn report(
     if out.len() < PAGE {
         return 0;
     }
-    let mut words = [0u32; 4096];
-    let mut cells = [0.0f64; 256];
+    let mut words = [0u32; LIST_LIMIT];
+    let mut cells = [0.0f64; CELL_LIMIT];
     let begun = begin(named, list, operands, schedule, &mut words, &mut cells);
     let name = begun.name;
     let fault = begun.fault;

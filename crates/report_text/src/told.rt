@@ -1,11 +1,14 @@
 // A run: the machine that it starts from, its schedule, and what is told of it.
 use crate::page::put_page;
+use lent_run::run::LOG_ROOM;
 use lent_run::run::run_logged;
 use machine_parts::Machine;
 use machine_parts::Record;
+use machine_parts::Register;
 use machine_parts::start::fresh;
 use machine_steps::advance::Progress;
 use steps_left::steps_left;
+use words::CELL_LIMIT;
 ghost use mathlib.Core.Path.{_≡_};
 ghost use mathlib.Core.List.{map};
 ghost use Prim.Native.Nat.{_≤_};
@@ -13,7 +16,7 @@ ghost use lib.ListN.{length, take};
 ghost use Rattle.theory_machine.specs.Entries.{stepsLeft};
 ghost use Rattle.theory_machine.specs.Binary64.{binary64};
 ghost use Rattle.machine_parts.specs.View.{view, viewRecord, lent};
-ghost use Rattle.theory_report.specs.Report.{startOf, runOf, ranText, pageText};
+ghost use Rattle.theory_report.specs.Report.{startOf, runOf, ranText, pageText, logRoom};
 ghost use Rattle.printing.specs.Put.{PutIn};
 ghost use Rattle.report_text.specs.Put.{pageRoom};
 ghost use Rattle.report_text.specs.Files.{reportLent};
@@ -22,7 +25,7 @@ ghost use Rattle.report_text.specs.Files.{reportLent};
 fn start(words: &[u32], operands: &[f64], results: &[f64]) -> Machine
     ensures { λ r. ⌜ view r ≡ startOf (lent (now (words .entry)) (now (operands .entry)) (now (results .entry))) ⌝ }
 {
-    let begun = fresh(words, operands, results, [0.0; 4]);
+    let begun = fresh(words, operands, results, [0.0; Register::COUNT]);
     let machine = begun.machine;
     machine
 }
@@ -34,9 +37,9 @@ fn tell(
     operands: &[f64],
     results: &[f64],
     run: Progress,
-    log: [Record; 2048],
+    log: [Record; LOG_ROOM],
 ) -> usize
-    requires { ⌜ (run .records ≤ 2048) × (pageRoom ≤ length (now out)) ⌝ }
+    requires { ⌜ (run .records ≤ logRoom) × (pageRoom ≤ length (now out)) ⌝ }
     ensures { λ r. ⌜ PutIn pageRoom (now (out .entry)) (now (out .exit)) 0 r (pageText (run .steps) (run .refusal) (run .place) (stepsLeft binary64 (lent (now (words .entry)) (now (operands .entry)) (now (results .entry))) (view (run .machine)) .left) (view (run .machine) .registers) (map viewRecord (take (run .records) log))) ⌝ }
 {
     let m = run.machine;
@@ -59,13 +62,13 @@ pub(crate) fn told_run(out: &mut [u8], words: &[u32], operands: &[f64], schedule
     requires { ⌜ pageRoom ≤ length (now out) ⌝ }
     ensures { λ r. ⌜ PutIn pageRoom (now (out .entry)) (now (out .exit)) 0 r (ranText (reportLent (now (words .entry)) (now (operands .entry))) (runOf (reportLent (now (words .entry)) (now (operands .entry))) (now (schedule .entry)))) ⌝ }
 {
-    let mut results = [0.0f64; 256];
+    let mut results = [0.0f64; CELL_LIMIT];
     let machine = start(words, operands, &results);
     let log = [Record {
         place: 0,
         cell: 0,
         number: 0.0,
-    }; 2048];
+    }; LOG_ROOM];
     let logged = run_logged(machine, words, operands, &mut results, schedule, log);
     let run = logged.run;
     let records = logged.log;
