@@ -5,6 +5,7 @@ use Prim.Native.Nat.{ℕ, _+_, _*_, _≤_, _<_}
 use native.Mathlib.Omega.{arith}
 use lib.ListN.{length, getD, drop, length-append, drop-of-length-le}
 use borrow.Author.Tests.{lt-ltb, le-ltb}
+use Rattle.words.specs.Instructions.{listLimit}
 use Rattle.words.specs.declared.Verdict.{Verdict}
 use Rattle.words.specs.Check.{wordRefusal, firstBad, listCheck, listCheckAlone, noAreas}
 use Rattle.words.proofs.Bad.{bad-here, bad-later, bad-none}
@@ -21,9 +22,9 @@ pub record Sizing (list : List ℕ) (size place : ℕ) : Type 0 where
   pub checked : firstBad noAreas 0 list ≡ firstBad noAreas place (drop place list)
 
 module _ (list : List ℕ) where
-  pub too-long : 4096 < length list → Measuring list 1 4096 0
+  pub too-long : listLimit < length list → Measuring list 1 listLimit 0
   unfolding listCheck
-  too-long h = record { check = rw (lt-ltb 4096 (length list) h); measured = λ e. absurd (omega arith) }
+  too-long h = record { check = rw (lt-ltb listLimit (length list) h); measured = λ e. absurd (omega arith) }
 
   pub sizing-none : {size : ℕ} → size ≡ length (bytesOf (length list)) → Sizing list size 0
   sizing-none e = record {
@@ -46,16 +47,16 @@ module _ (list : List ℕ) where
         checked = s .checked ∙ bad-later noAreas list place h ok;
       }
 
-      pub sizing-bad : length list ≤ 4096 → {bad : ℕ} → bad ≡ refusal → (bad ≡ 0 → ⊥) → Measuring list bad place 0
+      pub sizing-bad : length list ≤ listLimit → {bad : ℕ} → bad ≡ refusal → (bad ≡ 0 → ⊥) → Measuring list bad place 0
       unfolding listCheck
       sizing-bad short e n = record {
-        check = rw (le-ltb 4096 (length list) short, e) (sym (s .checked ∙ bad-here noAreas list place h (rw e at n)));
+        check = rw (le-ltb listLimit (length list) short, e) (sym (s .checked ∙ bad-here noAreas list place h (rw e at n)));
         measured = λ z. absurd (n z);
       }
 
-    pub sizing-all : length list ≤ 4096 → length list ≤ place → Measuring list 0 place size
+    pub sizing-all : length list ≤ listLimit → length list ≤ place → Measuring list 0 place size
     unfolding listCheck
     sizing-all short past = record {
-      check = rw (le-ltb 4096 (length list) short) (sym (s .checked ∙ bad-none noAreas list place past));
+      check = rw (le-ltb listLimit (length list) short) (sym (s .checked ∙ bad-none noAreas list place past));
       measured = λ z. omega (arith, s .sized, ap (λ (l : List ℕ). length (wordsBytes l)) (drop-of-length-le list past));
     }

@@ -10,6 +10,7 @@ use lib.Dec.{ltb}
 use lib.ListN.{length, getD, set, take, drop}
 use lib.Seq.{sets, sets-eq, paste-suc, length-paste, take-length}
 use borrow.Author.Tests.{ltb-false}
+use Rattle.words.specs.Instructions.{listLimit}
 use Rattle.words.specs.Check.{firstOf}
 use Rattle.list_file.specs.Reading.{countRefusal, over}
 
@@ -42,10 +43,10 @@ module _ (row buffer : List ℕ) where
     copying-all h = let n : i ≡ length row = omega arith in rw (c .is, n, take-length row)
 
 -- an accepted count is within the list's limit, and the buffer has room for it
-pub count-of : (room count : ℕ) → countRefusal room count ≡ 0 → (count ≤ 4096) × (count ≤ room)
-count-of room count e = go (ltb 4096 count) (ltb room count) refl refl e
+pub count-of : (room count : ℕ) → countRefusal room count ≡ 0 → (count ≤ listLimit) × (count ≤ room)
+count-of room count e = go (ltb listLimit count) (ltb room count) refl refl e
   where
-    go : (s t : Bool) → ltb 4096 count ≡ s → ltb room count ≡ t → firstOf (cond s 1 0 ∷ cond t 11 0 ∷ []) ≡ 0 → (count ≤ 4096) × (count ≤ room)
+    go : (s t : Bool) → ltb listLimit count ≡ s → ltb room count ≡ t → firstOf (cond s 1 0 ∷ cond t 11 0 ∷ []) ≡ 0 → (count ≤ listLimit) × (count ≤ room)
     go true t p q e = let z : _≡_ {A = ℕ} 0 1 = cc in absurd (omega arith)
     go false true p q e = let z : _≡_ {A = ℕ} 0 11 = cc in absurd (omega arith)
-    go false false p q e = (ltb-false 4096 count p, ltb-false room count q)
+    go false false p q e = (ltb-false listLimit count p, ltb-false room count q)

@@ -8,6 +8,7 @@ use lib.Dec.{ltb, eqb}
 use lib.ListN.{length, take, drop}
 use lib.Seq.{take-append-seam}
 use borrow.Author.Tests.{ltb-true, ltb-false, lt-ltb, le-ltb, eqb-true, eqb-false}
+use Rattle.words.specs.Instructions.{listLimit}
 use Rattle.words.specs.declared.Verdict.{Verdict}
 use Rattle.words.specs.Check.{firstBad, listCheck, listCheckAlone, firstOf, noAreas}
 use Rattle.list_file.specs.declared.ListRead.{ListRead}
@@ -65,9 +66,9 @@ pub file-read : (list : List ℕ) (room : ℕ) → listCheckAlone list .refusal 
 unfolding listIn listCheck
 file-read list room ok enough =
     let short = within-limit noAreas list ok in
-    let counts : countRefusal room (length list) ≡ 0 = rw (le-ltb 4096 (length list) short, le-ltb room (length list) enough) in
+    let counts : countRefusal room (length list) ≡ 0 = rw (le-ltb listLimit (length list) short, le-ltb room (length list) enough) in
     rw (field-goes (fileOf list) (countRefusal room) 0 (length list) (wordsBytes list) counts (omega arith) refl)
-    (words-go (fileOf list) (0 + length (bytesOf (length list))) 0 list (rw (le-ltb 4096 (length list) short) at ok)
+    (words-go (fileOf list) (0 + length (bytesOf (length list))) 0 list (rw (le-ltb listLimit (length list) short) at ok)
     (past (fileOf list) 0 (bytesOf (length list)) (wordsBytes list) refl))
 
 -- a word buffer without room for it is refused with 11
@@ -75,7 +76,7 @@ pub file-short : (list : List ℕ) (room : ℕ) → listCheckAlone list .refusal
 unfolding listIn fieldAt
 file-short list room ok less =
     let short = within-limit noAreas list ok in
-    rw (number-goes (fileOf list) 0 (length list) (wordsBytes list) (omega arith) refl, le-ltb 4096 (length list) short, lt-ltb room (length list) less)
+    rw (number-goes (fileOf list) 0 (length list) (wordsBytes list) (omega arith) refl, le-ltb listLimit (length list) short, lt-ltb room (length list) less)
 
 -- THE TWO THEOREMS
 

@@ -8,6 +8,7 @@ use lib.Dec.{ltb}
 use lib.ListN.{length}
 use lib.Seq.{sets}
 use borrow.Author.Tests.{ltb-false, lt-ltb, le-ltb, eq-eqb, ne-eqb}
+use Rattle.words.specs.Instructions.{listLimit}
 use Rattle.words.specs.declared.Verdict.{Verdict}
 use Rattle.words.specs.declared.Areas.{Areas}
 use Rattle.words.specs.Check.{firstBad, listCheck, listCheckAlone, noAreas}
@@ -19,15 +20,15 @@ use Rattle.list_file.proofs.Laid.{sets-append}
 use Rattle.list_file.proofs.Passed.{sets-over}
 
 -- a list that passes is within the limit
-pub within-limit : (areas : Areas) (list : List ℕ) → listCheck areas list .refusal ≡ 0 → length list ≤ 4096
+pub within-limit : (areas : Areas) (list : List ℕ) → listCheck areas list .refusal ≡ 0 → length list ≤ listLimit
 unfolding listCheck
-within-limit areas list e = go (ltb 4096 (length list)) refl e
+within-limit areas list e = go (ltb listLimit (length list)) refl e
   where
-    go : (b : Bool) → ltb 4096 (length list) ≡ b
-        → _≡_ {A = ℕ} (cond {A = Verdict} b (record { refusal = 1; place = 4096 }) (firstBad areas 0 list) .refusal) 0
-        → length list ≤ 4096
+    go : (b : Bool) → ltb listLimit (length list) ≡ b
+        → _≡_ {A = ℕ} (cond {A = Verdict} b (record { refusal = 1; place = listLimit }) (firstBad areas 0 list) .refusal) 0
+        → length list ≤ listLimit
     go true p e = absurd (omega arith)
-    go false p e = ltb-false 4096 (length list) p
+    go false p e = ltb-false listLimit (length list) p
 
 -- the count, then the words
 pub sets-file : (bytes list : List ℕ)
@@ -57,5 +58,5 @@ module _ (list bytes : List ℕ) {refusal place size : ℕ} (m : Measuring list 
           e ∙ sets-over (fileOf list) bytes s ∙ rw (← m .check, eq-eqb refusal 0 ok, le-ltb (length bytes) (length (fileOf list)) s),
         )
 
-    pub wrote-within : length list ≤ 4096
+    pub wrote-within : length list ≤ listLimit
     wrote-within = within-limit noAreas list (sym (ap (λ (v : Verdict). v .refusal) (m .check)) ∙ ok)

@@ -8,6 +8,7 @@ use Prim.Native.Nat.{ℕ, _≤_, _<_}
 use lib.Ieee.{Float}
 use lib.ListN.{length}
 use borrow.Author.Tests.{lt-ltb, le-ltb, lt-leb, ne-eqb}
+use Rattle.words.specs.Instructions.{listLimit}
 use Rattle.seven_bit.specs.SevenBits.{accepted, numberIn, numberAt}
 use Rattle.theory_machine.specs.Machine as theory
 use Rattle.theory_machine.specs.Machine.{Lent, Record}
@@ -74,24 +75,24 @@ module _ (words : List ℕ) (operands : List Float) (m : Machine) (cells : List 
       → StepAnswer words operands m cells code r cells
   refused-answer n e s = record { answer = ap viewStepped e ∙ s; after = rw e }
 
-  pub too-long : 4096 < length words → {r : Stepped} → r ≡ unchanged 1 → StepAnswer words operands m cells code r cells
+  pub too-long : listLimit < length words → {r : Stepped} → r ≡ unchanged 1 → StepAnswer words operands m cells code r cells
   unfolding step
-  too-long h e = refused-answer 1 e (rw (lt-ltb 4096 (length words) h))
+  too-long h e = refused-answer 1 e (rw (lt-ltb listLimit (length words) h))
 
-  module _ (short : length words ≤ 4096) where
+  module _ (short : length words ≤ listLimit) where
     pub disordered : inOrder binary64 (lent words operands cells) (view m) ≡ false → {r : Stepped} → r ≡ unchanged 6
         → StepAnswer words operands m cells code r cells
     unfolding step
-    disordered o e = refused-answer 6 e (rw (le-ltb 4096 (length words) short, o))
+    disordered o e = refused-answer 6 e (rw (le-ltb listLimit (length words) short, o))
 
     pub performed : inOrder binary64 (lent words operands cells) (view m) ≡ true → {r : Stepped} {cells′ : List Float}
         → viewStepped r ≡ perform binary64 (lent words operands cells) (view m) code → cells′ ≡ written cells (viewReleased (r .released))
         → StepAnswer words operands m cells code r cells′
     unfolding step
-    performed o e w = record { answer = e ∙ rw (le-ltb 4096 (length words) short, o); after = w }
+    performed o e w = record { answer = e ∙ rw (le-ltb listLimit (length words) short, o); after = w }
 
     -- a code beyond one byte
     pub unknown : inOrder binary64 (lent words operands cells) (view m) ≡ true → 127 < code → {r : Stepped} → r ≡ unchanged 5
         → StepAnswer words operands m cells code r cells
     unfolding step perform
-    unknown o h e = refused-answer 5 e (rw (le-ltb 4096 (length words) short, o, no-code code h))
+    unknown o h e = refused-answer 5 e (rw (le-ltb listLimit (length words) short, o, no-code code h))

@@ -5,10 +5,10 @@ use lib.Ieee.{Float}
 use denote.Ref.{now}
 use Rattle.numbers.proofs.Determined.{DeterminesLent, one-answer}
 use Rattle.theory_machine.specs.Entries as theory
-use Rattle.one_at_a_time.specs.declared.one_at_a_time.OneAtATime.{OneAtATime}
+use Rattle.one_at_a_time.specs.declared.OneAtATime.{OneAtATime}
 use Rattle.one_at_a_time.specs.Answers.{viewOneAtATime}
-use Rattle.one_at_a_time.proofs.one_at_a_time.one_at_a_time.Kinds as one-at-a-time-kinds
-use Rattle.one_at_a_time.proofs.one_at_a_time.one_at_a_time.Reads as one-at-a-time-reads
+use Rattle.one_at_a_time.proofs.one_at_a_time.Kinds as one-at-a-time-kinds
+use Rattle.one_at_a_time.proofs.one_at_a_time.Reads as one-at-a-time-reads
 
 answer-exact : (x y : OneAtATime) (cells others : List Float) → viewOneAtATime x cells ≡ viewOneAtATime y others → (x ≡ y) × (cells ≡ others)
 answer-exact x y cells others e = (

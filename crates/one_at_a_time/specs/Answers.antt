@@ -3,7 +3,7 @@ use mathlib.Core.List.{List}
 use lib.Ieee.{Float}
 use Rattle.theory_machine.specs.OneAtATime.{Run}
 use Rattle.theory_machine.specs.Entries as theory
-use Rattle.one_at_a_time.specs.declared.one_at_a_time.OneAtATime.{OneAtATime}
+use Rattle.one_at_a_time.specs.declared.OneAtATime.{OneAtATime}
 
 abbrev pub at : (registers cells : List Float) → Run Float
 at registers cells = record { registers = registers; cells = cells }

@@ -12,32 +12,32 @@ use lib.Seq.{sets, sets-eq}
 use borrow.Author.Tests.{lt-ltb, le-ltb, ltb-false, eq-eqb, ne-eqb}
 use Rattle.words.specs.declared.Verdict.{Verdict}
 use Rattle.operands_file.specs.declared.OperandsRead.{OperandsRead}
-use Rattle.operands_file.specs.Operands.{operandsIn}
+use Rattle.operands_file.specs.Operands.{operandsIn, operandsLimit}
 use Rattle.operands_file.specs.Reading.{operandsVerdict, answeredOf, storedOf, readAnswer, readCells}
 use Rattle.operands_file.proofs.Joining.{length-numbers}
 
 -- THE VERDICT
 module _ (size : ℕ) where
-  pub too-many : 2048 < size → record { refusal = 4; place = 2048 } ≡ operandsVerdict size
-  too-many h = rw (lt-ltb 2048 size h)
+  pub too-many : operandsLimit < size → record { refusal = 4; place = operandsLimit } ≡ operandsVerdict size
+  too-many h = rw (lt-ltb operandsLimit size h)
 
-  module _ (few : size ≤ 2048) where
+  module _ (few : size ≤ operandsLimit) where
     pub cut : size / 8 * 8 < size → record { refusal = 8; place = size / 8 * 8 } ≡ operandsVerdict size
-    cut h = rw (le-ltb 2048 size few, lt-ltb (size / 8 * 8) size h)
+    cut h = rw (le-ltb operandsLimit size few, lt-ltb (size / 8 * 8) size h)
 
     pub whole : size ≤ size / 8 * 8 → record { refusal = 0; place = size } ≡ operandsVerdict size
-    whole h = rw (le-ltb 2048 size few, le-ltb (size / 8 * 8) size h)
+    whole h = rw (le-ltb operandsLimit size few, le-ltb (size / 8 * 8) size h)
 
   -- an accepted file has at most 2,048 bytes, in whole patterns
-  pub good-size : operandsVerdict size .refusal ≡ 0 → (size ≤ 2048) × (size ≤ size / 8 * 8)
-  good-size e = go (ltb 2048 size) (ltb (size / 8 * 8) size) refl refl e
+  pub good-size : operandsVerdict size .refusal ≡ 0 → (size ≤ operandsLimit) × (size ≤ size / 8 * 8)
+  good-size e = go (ltb operandsLimit size) (ltb (size / 8 * 8) size) refl refl e
     where
-      go : (s t : Bool) → ltb 2048 size ≡ s → ltb (size / 8 * 8) size ≡ t
-          → (cond {A = Verdict} s (record { refusal = 4; place = 2048 }) (cond {A = Verdict} t (record { refusal = 8; place = size / 8 * 8 }) (record { refusal = 0; place = size }))) .refusal ≡ 0
-          → (size ≤ 2048) × (size ≤ size / 8 * 8)
+      go : (s t : Bool) → ltb operandsLimit size ≡ s → ltb (size / 8 * 8) size ≡ t
+          → (cond {A = Verdict} s (record { refusal = 4; place = operandsLimit }) (cond {A = Verdict} t (record { refusal = 8; place = size / 8 * 8 }) (record { refusal = 0; place = size }))) .refusal ≡ 0
+          → (size ≤ operandsLimit) × (size ≤ size / 8 * 8)
       go true t p q e = absurd (omega arith)
       go false true p q e = absurd (omega arith)
-      go false false p q e = (ltb-false 2048 size p, ltb-false (size / 8 * 8) size q)
+      go false false p q e = (ltb-false operandsLimit size p, ltb-false (size / 8 * 8) size q)
 
 pub how-many : (bytes : List ℕ) → length (operandsIn bytes) ≡ length bytes / 8
 how-many bytes = length-numbers (length bytes / 8) bytes 0

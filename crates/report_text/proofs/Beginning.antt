@@ -6,6 +6,7 @@ use Prim.Native.Nat.{ℕ, _≤_, _<_}
 use native.Mathlib.Omega.{arith}
 use lib.ListN.{length}
 use borrow.Author.Tests.{eq-eqb, ne-eqb}
+use Rattle.words.specs.Instructions.{listLimit}
 use Rattle.words.specs.declared.Verdict.{Verdict}
 use Rattle.list_file.specs.declared.ListRead.{ListRead}
 use Rattle.seven_bit.specs.SevenBits.{Parsed, accepted, refused}
@@ -17,7 +18,7 @@ use Rattle.list_file.proofs.RoundTrip.{is-read}
 use Rattle.printing.specs.declared.Fault.{Fault}
 use Rattle.printing.specs.declared.Fault.the-variants.{Nothing, Missing, Refused}
 use Rattle.printing.specs.Lines.{isFault, orStopped}
-use Rattle.theory_report.specs.Report.{fileFault, readFault, listFault, wordsIn, verdictFault}
+use Rattle.theory_report.specs.Report.{fileFault, readFault, listFault, wordsIn, verdictFault, fileLimit}
 use Rattle.report_text.specs.Files.{given, ListIs}
 use Rattle.report_text.proofs.FileFaults.{fault-missing, fault-long, fault-own}
 
@@ -62,14 +63,14 @@ module _ (bytes : List ℕ) (found : Bool) (buffer : List ℕ) where
   list-missing e = record { is = fault-missing bytes found listFault e; words = not-none Missing refl; few = omega arith }
 
   module _ (is : found ≡ true) where
-    pub list-long : 65536 < length bytes → ListIs found bytes buffer (Refused 11 65536) 0
-    list-long h = record { is = fault-long bytes found listFault is h; words = not-none (Refused 11 65536) refl; few = omega arith }
+    pub list-long : fileLimit < length bytes → ListIs found bytes buffer (Refused 11 fileLimit) 0
+    list-long h = record { is = fault-long bytes found listFault is h; words = not-none (Refused 11 fileLimit) refl; few = omega arith }
 
-    module _ (short : length bytes ≤ 65536) (words : List ℕ) (room : length words ≡ 4096) (answer : ListRead) (a : answer ≡ readAnswer bytes words) where
+    module _ (short : length bytes ≤ fileLimit) (words : List ℕ) (room : length words ≡ listLimit) (answer : ListRead) (a : answer ≡ readAnswer bytes words) where
       pub list-refused : (answer .refusal ≡ 0 → ⊥) → ListIs found bytes buffer (Refused (answer .refusal) (answer .place)) 0
       list-refused f =
-          let b : answer ≡ answered (listIn 4096 bytes) = rw room at a in
-          let q : Refused (answer .refusal) (answer .place) ≡ readFault (listIn 4096 bytes) = rw b (go (listIn 4096 bytes) (rw b at f)) in
+          let b : answer ≡ answered (listIn listLimit bytes) = rw room at a in
+          let q : Refused (answer .refusal) (answer .place) ≡ readFault (listIn listLimit bytes) = rw b (go (listIn listLimit bytes) (rw b at f)) in
           record {
             is = q ∙ fault-own bytes found listFault is short;
             words = not-none (Refused (answer .refusal) (answer .place)) refl;
@@ -83,13 +84,13 @@ module _ (bytes : List ℕ) (found : Bool) (buffer : List ℕ) where
       pub list-taken : answer .refusal ≡ 0 → buffer ≡ readWords bytes words → ListIs found bytes buffer Nothing (answer .count)
       list-taken e w =
           let r = is-read bytes words (rw a at e) in
-          let l : listIn 4096 bytes ≡ accepted (r .list) (r .end) = rw room at (r .is) in
-          let b : answer ≡ answered (listIn 4096 bytes) = rw room at a in
-          let q : Nothing ≡ readFault (listIn 4096 bytes) = rw l in
-          let v : r .list ≡ wordsIn (listIn 4096 bytes) = rw l in
+          let l : listIn listLimit bytes ≡ accepted (r .list) (r .end) = rw room at (r .is) in
+          let b : answer ≡ answered (listIn listLimit bytes) = rw room at a in
+          let q : Nothing ≡ readFault (listIn listLimit bytes) = rw l in
+          let v : r .list ≡ wordsIn (listIn listLimit bytes) = rw l in
           let n : answer .count ≡ length (r .list) = rw (b, l) in
           record {
             is = q ∙ fault-own bytes found listFault is short;
             words = λ z. rw (a, w) (r .back ∙ v);
-            few = omega (arith, n, list-few 4096 bytes l);
+            few = omega (arith, n, list-few listLimit bytes l);
           }

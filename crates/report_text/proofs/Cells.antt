@@ -9,13 +9,14 @@ use lib.Ieee.{Float}
 use lib.ListN.{length, drop}
 use lib.Seq.{take-append-seam}
 use borrow.Author.Tests.{eqb-true, eqb-false}
+use Rattle.words.specs.Instructions.{cellLimit}
 use Rattle.words.specs.declared.Verdict.{Verdict}
 use Rattle.operands_file.specs.declared.OperandsRead.{OperandsRead}
 use Rattle.operands_file.specs.Operands.{operandsIn}
 use Rattle.operands_file.specs.Reading.{operandsVerdict, answeredOf, readAnswer, readCells}
 use Rattle.operands_file.proofs.Answered.{good-size, how-many, answered-refused, answered-room, stored-good}
 use Rattle.printing.specs.declared.Fault.the-variants.{Nothing, Missing, Refused}
-use Rattle.theory_report.specs.Report.{verdictFault, operandsFault}
+use Rattle.theory_report.specs.Report.{verdictFault, operandsFault, fileLimit}
 use Rattle.report_text.specs.Files.{CellsAre}
 use Rattle.report_text.proofs.FileFaults.{fault-missing, fault-long, fault-own}
 use Rattle.report_text.proofs.Beginning.{not-none, verdict-passes, verdict-stops}
@@ -56,20 +57,20 @@ module _ (bytes : List ℕ) (found : Bool) (cells : List Float) where
   }
 
   module _ (is : found ≡ true) where
-    pub cells-long : 65536 < length bytes → CellsAre found bytes cells (Refused 11 65536) 0
+    pub cells-long : fileLimit < length bytes → CellsAre found bytes cells (Refused 11 fileLimit) 0
     cells-long h = record {
       is = fault-long bytes found operandsFault is h;
-      numbers = not-none (Refused 11 65536) refl;
-      counted = not-none (Refused 11 65536) refl;
+      numbers = not-none (Refused 11 fileLimit) refl;
+      counted = not-none (Refused 11 fileLimit) refl;
       few = omega arith;
     }
 
-    module _ (short : length bytes ≤ 65536) (cells₀ : List Float) (room : length cells₀ ≡ 256) (answered : OperandsRead) (a : answered ≡ readAnswer bytes cells₀) where
+    module _ (short : length bytes ≤ fileLimit) (cells₀ : List Float) (room : length cells₀ ≡ cellLimit) (answered : OperandsRead) (a : answered ≡ readAnswer bytes cells₀) where
       abbrev verdict : Verdict
       verdict = operandsVerdict (length bytes)
 
       -- 256 cells are enough for every good file
-      few-numbers : verdict .refusal ≡ 0 → length (operandsIn bytes) ≤ 256
+      few-numbers : verdict .refusal ≡ 0 → length (operandsIn bytes) ≤ cellLimit
       few-numbers e = omega (arith, good-size (length bytes) e .0, how-many bytes)
 
       enough : verdict .refusal ≡ 0 → length (operandsIn bytes) ≤ length cells₀

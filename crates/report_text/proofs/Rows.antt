@@ -11,7 +11,7 @@ use Rattle.machine_parts.specs.declared.Operand.the-variants.{Number}
 use Rattle.machine_parts.specs.declared.Register.{Register}
 use Rattle.machine_parts.specs.declared.Record.{Record}
 use Rattle.machine_parts.specs.View.{viewRegister, viewRecord}
-use Rattle.theory_report.specs.Report.{registerLine, registerLines, recordLine, recordLines}
+use Rattle.theory_report.specs.Report.{registerLine, registerLines, recordLine, recordLines, logRoom}
 use Rattle.report_text.specs.Put.{recordLimit}
 
 abbrev pub lineOf : List Register → (i number : ℕ) → List ℕ
@@ -47,5 +47,5 @@ first-next log i h =
 pub limit-next : (i : ℕ) → (i + 1) * recordLimit ≡ i * recordLimit + recordLimit
 limit-next i = omega arith
 
-pub records-count : (log : List Record) (count : ℕ) → length log ≡ 2048 → count ≤ 2048 → length (map viewRecord (take count log)) ≡ count
+pub records-count : (log : List Record) (count : ℕ) → length log ≡ logRoom → count ≤ logRoom → length (map viewRecord (take count log)) ≡ count
 records-count log count n h = length-map (take count log) viewRecord ∙ length-take-le count log (omega arith)

@@ -6,6 +6,7 @@ use Prim.Native.Nat.{ℕ, _≤_}
 use native.Mathlib.Omega.{arith}
 use lib.Ieee.{Float}
 use lib.ListN.{length, take}
+use Rattle.words.specs.Instructions.{listLimit, cellLimit}
 use Rattle.words.specs.Check.{listCheck}
 use Rattle.theory_machine.specs.Machine.{Lent}
 use Rattle.list_file.specs.Reading.{listIn}
@@ -75,9 +76,9 @@ module _ (found : FilesFound) (list operands schedule : List ℕ) where
             rw (one, two, three, a, b, c)
 
         pub begun : {buffer : List ℕ} {cells : List Float} {count numbers : ℕ} {fault : Fault}
-            → take count buffer ≡ wordsIn (listIn 4096 list) → count ≤ 4096
-            → take numbers cells ≡ operandsIn operands → numbers ≡ length (operandsIn operands) → numbers ≤ 256
-            → fault ≡ verdictFault (listCheck (record { operands = numbers; results = 256 }) (take count buffer))
+            → take count buffer ≡ wordsIn (listIn listLimit list) → count ≤ listLimit
+            → take numbers cells ≡ operandsIn operands → numbers ≡ length (operandsIn operands) → numbers ≤ cellLimit
+            → fault ≡ verdictFault (listCheck (record { operands = numbers; results = cellLimit }) (take count buffer))
             → Begins found list operands schedule buffer cells (record { name = name.Areas; fault = fault; words = count; operands = numbers })
         begun {buffer} {cells} {count} {numbers} {fault} w n m k l f =
             let same : fault ≡ areasFault (lentOfFiles list operands) = f ∙ rw (w, k) in

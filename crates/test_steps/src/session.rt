@@ -18,7 +18,7 @@ use machine_parts::start::fresh;
 use machine_steps::lowest::Lowest;
 use machine_steps::lowest::lowest_step;
 use machine_steps::step::step;
-use one_at_a_time::one_at_a_time::one_at_a_time;
+use one_at_a_time::one_at_a_time;
 use steps_left::drained;
 use steps_left::steps_left;
 

@@ -1,24 +1,26 @@
 -- What the check of a word, and of a list, tells of its instructions.
 use mathlib.Core.Path.{_≡_, refl}
-use mathlib.Core.Bool.{Bool, true, false, cond, _&&_, _||_}
+use mathlib.Core.Bool.{Bool, true, false, _||_}
 use mathlib.Core.Logic.{⊎-elim}
 use mathlib.Core.List.{List, [], _∷_}
 use Prim.Native.Nat.{ℕ, zero, suc, _/_, _≤_, _<_}
 use native.Mathlib.Omega.{arith}
-use lib.Dec.{ltb, leb, eqb}
+use lib.Dec.{ltb, eqb}
 use lib.ListN.{length, getD}
-use borrow.Author.Tests.{ltb-true, ltb-false, eqb-true, eqb-false, ne-eqb}
+use borrow.Author.Tests.{ltb-true, ltb-false, eqb-true, eqb-false}
 use Rattle.words.specs.declared.Areas.{Areas}
 use Rattle.words.specs.declared.Form.{Form}
 use Rattle.words.specs.declared.Form.the-variants.{Unknown, LD, LDR, CellArithmetic, RegisterArithmetic, STD}
 use Rattle.words.specs.Instructions.{formOf, operationField, r1Field, operandField, isRegister, isCell, cellLimit, listLimit}
-use Rattle.words.specs.Check.{operationRefusal, registerRefusal, cellRefusal, operandRefusal, firstOf, wordRefusal, firstBad, listCheck}
+use Rattle.words.specs.Check.{operationRefusal, registerRefusal, cellRefusal, operandRefusal, wordRefusal, firstBad, listCheck}
+use Rattle.words.proofs.Known.{passed, known-operation, isKnown, form-known}
+use Rattle.words.proofs.Passes.{none-first}
 use Rattle.theory_machine.specs.Tags.{registerCount}
 use Rattle.theory_machine.specs.Instruction.{Instruction, noInstruction, load, store, copy, cellArithmetic, registerArithmetic, indexOf, instruction, decode}
 use Rattle.theory_machine.specs.Machine.{Kind, Lent, areasOf}
 use Rattle.theory_machine.specs.Issue.{wordAt, refusalOf}
 use Rattle.theory_machine.specs.Entries.{listRefusal}
-use Rattle.theory_machine.proofs.Rows.{bool-cases, and-r, or-r, absurd-bool, allBelow-at, within}
+use Rattle.theory_machine.proofs.Rows.{bool-cases, and-r, absurd-bool}
 
 -- ONE WORD
 
@@ -34,19 +36,9 @@ pub cell-in-area : (area c : ℕ) → isCell area c ≡ true → c < area
 unfolding isCell
 cell-in-area area c e = ltb-true c area (and-r (ltb c cellLimit) (ltb c area) e)
 
--- a test that chose 0 over a refusal held
-chose : (k : ℕ) (b : Bool) → cond b 0 (suc k) ≡ 0 → b ≡ true
-chose k true e = refl
-chose k false e = absurd (omega arith)
-
--- the first of several refusals is 0 where each is
-first-zero : (n : ℕ) (ns : List ℕ) → firstOf (n ∷ ns) ≡ 0 → (n ≡ 0) × (firstOf ns ≡ 0)
-first-zero n ns e =
-    ⊎-elim (λ (t : eqb n 0 ≡ true). (eqb-true n 0 t, rw t at e)) (λ (t : eqb n 0 ≡ false). absurd (eqb-false n 0 t (rw t at e))) (bool-cases (eqb n 0))
-
 register-index : (r : ℕ) → registerRefusal r ≡ 0 → indexOf r < registerCount
 unfolding registerRefusal isRegister
-register-index r e = go (eqb r 0) (eqb r 2) (eqb r 4) (eqb r 6) refl refl refl refl (chose 2 (isRegister r) e)
+register-index r e = go (eqb r 0) (eqb r 2) (eqb r 4) (eqb r 6) refl refl refl refl (passed (isRegister r) 2 e)
   where
     go : (a b c d : Bool) → eqb r 0 ≡ a → eqb r 2 ≡ b → eqb r 4 ≡ c → eqb r 6 ≡ d → a || (b || (c || d)) ≡ true → r / 2 < 4
     go true b c d p q s t k = omega (arith, eqb-true r 0 p)
@@ -57,25 +49,9 @@ register-index r e = go (eqb r 0) (eqb r 2) (eqb r 4) (eqb r 6) refl refl refl r
 
 cell-good : (area c : ℕ) → cellRefusal area c ≡ 0 → isCell area c ≡ true
 unfolding cellRefusal
-cell-good area c e = chose 3 (isCell area c) e
-
-isKnown : Form → Bool
-isKnown Unknown = false
-isKnown LD = true
-isKnown LDR = true
-isKnown (CellArithmetic o) = true
-isKnown (RegisterArithmetic o) = true
-isKnown STD = true
-
-known : (n : ℕ) → operationRefusal n ≡ 0 → isKnown (formOf n) ≡ true
-unfolding operationRefusal isKnown
-known n e =
-    let w = within 1 11 n (chose 1 (leb 1 n && leb n 11) e) in
-    or-r (eqb n 0) (isKnown (formOf n)) (allBelow-at 12 (λ n. eqb n 0 || isKnown (formOf n)) refl n (omega (arith, w .1)))
-    (ne-eqb n 0 (λ (z : n ≡ 0). omega (arith, w .0)))
+cell-good area c e = passed (isCell area c) 3 e
 
 formed : (a : Areas) (f : Form) (r x : ℕ) → isKnown f ≡ true → indexOf r < registerCount → operandRefusal a f x ≡ 0 → WellFormed a (instruction f r x)
-unfolding isKnown
 formed a Unknown r x k h e = absurd-bool k refl
 formed a LD r x k h e = (h, cell-good (a .operands) x e)
 formed a LDR r x k h e = (h, register-index x e)
@@ -88,9 +64,9 @@ unfolding wordRefusal decode
 word-formed a w e =
     let f : Form = formOf (operationField w) in
     let o : ℕ = operandRefusal a f (operandField w) in
-    let p = first-zero (operationRefusal (operationField w)) (registerRefusal (r1Field w) ∷ o ∷ []) e in
-    let q = first-zero (registerRefusal (r1Field w)) (o ∷ []) (p .1) in
-    formed a f (r1Field w) (operandField w) (known (operationField w) (p .0)) (register-index (r1Field w) (q .0)) (first-zero o [] (q .1) .0)
+    let p = none-first (operationRefusal (operationField w)) (registerRefusal (r1Field w) ∷ o ∷ []) e in
+    let q = none-first (registerRefusal (r1Field w)) (o ∷ []) (p .1) in
+    formed a f (r1Field w) (operandField w) (let k = known-operation (operationField w) (p .0) in form-known (operationField w) (k .0) (k .1)) (register-index (r1Field w) (q .0)) (none-first o [] (q .1) .0)
 
 -- A LIST
 

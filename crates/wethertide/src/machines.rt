@@ -237,7 +237,7 @@ pub extern "C" fn wethertide_one_at_a_time(
         return refusal::ROOM;
     }
     let starts = starts_in(registers);
-    let ran = one_at_a_time::one_at_a_time::one_at_a_time(words, operands, results, starts);
+    let ran = one_at_a_time::one_at_a_time(words, operands, results, starts);
     let ends = ran.registers;
     put_number(registers, 0, ends[0]);
     put_number(registers, 1, ends[1]);

@@ -12,11 +12,11 @@ use borrow.Author.Tests.{ltb-true, leb-true, eqb-true, eqb-false}
 use Rattle.words.specs.declared.Form.{Form}
 use Rattle.words.specs.declared.Form.the-variants.{Unknown, LD, LDR, CellArithmetic, RegisterArithmetic, STD}
 use Rattle.words.specs.declared.Areas.{Areas}
-use Rattle.words.specs.Instructions.{table, formOf, isRegister, isCell}
+use Rattle.words.specs.Instructions.{table, lastOperation, formOf, isRegister, isCell, cellLimit}
 use Rattle.words.specs.Check.{operationRefusal, registerRefusal, cellRefusal, operandRefusal}
 
 -- a test that chooses between 0 and a refusal came out 0
-passed : (b : Bool) (n : ℕ) → cond b 0 (suc n) ≡ 0 → b ≡ true
+pub passed : (b : Bool) (n : ℕ) → cond b 0 (suc n) ≡ 0 → b ≡ true
 passed true n e = refl
 passed false n e = let z : _≡_ {A = ℕ} 0 1 = cc in absurd (omega arith)
 
@@ -32,11 +32,11 @@ both true true e = (refl, refl)
 both true false e = (refl, e)
 both false b e = (e, cc)
 
-pub known-operation : (o : ℕ) → operationRefusal o ≡ 0 → (1 ≤ o) × (o ≤ 11)
+pub known-operation : (o : ℕ) → operationRefusal o ≡ 0 → (1 ≤ o) × (o ≤ lastOperation)
 unfolding operationRefusal
 known-operation o e =
-    let t = both (leb 1 o) (leb o 11) (passed (leb 1 o && leb o 11) 1 e) in
-    (leb-true 1 o (t .0), leb-true o 11 (t .1))
+    let t = both (leb 1 o) (leb o lastOperation) (passed (leb 1 o && leb o lastOperation) 1 e) in
+    (leb-true 1 o (t .0), leb-true o lastOperation (t .1))
 
 -- the register is the first of a row of tests that holds
 pub known-register : (r : ℕ) → registerRefusal r ≡ 0 → r ≤ 6
@@ -56,9 +56,9 @@ known-register r e = four (passed (isRegister r) 2 e)
         (λ h₂. either 2 (eqb r 4 || eqb r 6) h₂
         (λ h₄. either 4 (eqb r 6) h₄ (λ h₆. omega (arith, eqb-true r 6 h₆)) (omega arith)) (omega arith)) (omega arith)
 
-known-cell : (area c : ℕ) → cellRefusal area c ≡ 0 → c < 256
+known-cell : (area c : ℕ) → cellRefusal area c ≡ 0 → c < cellLimit
 unfolding cellRefusal isCell
-known-cell area c e = ltb-true c 256 (both (ltb c 256) (ltb c area) (passed (isCell area c) 3 e) .0)
+known-cell area c e = ltb-true c cellLimit (both (ltb c cellLimit) (ltb c area) (passed (isCell area c) 3 e) .0)
 
 abbrev pub isKnown : Form → Bool
 isKnown Unknown = false
@@ -78,15 +78,15 @@ known-at (f ∷ fs) e zero h = both (isKnown f) (allKnown fs) e .0
 known-at (f ∷ fs) e (suc i) h = known-at fs (both (isKnown f) (allKnown fs) e .1) i (le-of-suc-le-suc h)
 
 -- all rows of the table but row 0 are known
-pub form-known : (o : ℕ) → 1 ≤ o → o ≤ 11 → isKnown (formOf o) ≡ true
+pub form-known : (o : ℕ) → 1 ≤ o → o ≤ lastOperation → isKnown (formOf o) ≡ true
 form-known zero p h = absurd (not-suc-le-zero p)
 form-known (suc o) p h = known-at (drop 1 table) refl o (omega arith)
 
-pub known-operand : (areas : Areas) (o x : ℕ) → operationRefusal o ≡ 0 → operandRefusal areas (formOf o) x ≡ 0 → x < 256
+pub known-operand : (areas : Areas) (o x : ℕ) → operationRefusal o ≡ 0 → operandRefusal areas (formOf o) x ≡ 0 → x < cellLimit
 known-operand areas o x known e =
     let k = known-operation o known in go (formOf o) (form-known o (k .0) (k .1)) e
   where
-    go : (f : Form) → isKnown f ≡ true → operandRefusal areas f x ≡ 0 → x < 256
+    go : (f : Form) → isKnown f ≡ true → operandRefusal areas f x ≡ 0 → x < cellLimit
     go Unknown k e = let z : _≡_ {A = ℕ} 0 1 = cc in absurd (omega arith)
     go LD k e = known-cell (areas .operands) x e
     go LDR k e = omega (arith, known-register x e)

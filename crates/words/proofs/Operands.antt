@@ -13,7 +13,7 @@ use borrow.Author.Tests.{ltb-true, ltb-false, lt-ltb, le-ltb, le-leb}
 use Rattle.words.specs.declared.Form.{Form}
 use Rattle.words.specs.declared.Form.the-variants.{Unknown, LD, LDR, CellArithmetic, RegisterArithmetic, STD}
 use Rattle.words.specs.declared.Areas.{Areas}
-use Rattle.words.specs.Instructions.{table, formOf, isCell}
+use Rattle.words.specs.Instructions.{table, formOf, isCell, lastOperation, cellLimit}
 use Rattle.words.specs.Operands.{heldRefusal}
 use Rattle.words.specs.Check.{operationRefusal, registerRefusal, cellRefusal, operandRefusal}
 use Rattle.words.proofs.Known.{isKnown, both, eqb-cases, known-operation, form-known}
@@ -64,12 +64,12 @@ module _ (x area : ℕ) where
       no-four (inr (inl e)) = omega arith
       no-four (inr (inr (inl e))) = omega arith
       no-four (inr (inr (inr e))) = omega arith
-  above-limit false h = rw (le-ltb x area h) (no-cell (ltb x 256))
+  above-limit false h = rw (le-ltb x area h) (no-cell (ltb x cellLimit))
 
-  pub above-cells : (r : Bool) → x < cond r 8 area → 256 ≤ x → cond r 3 4 ≡ heldRefusal x r area
+  pub above-cells : (r : Bool) → x < cond r 8 area → cellLimit ≤ x → cond r 3 4 ≡ heldRefusal x r area
   unfolding cellRefusal isCell
   above-cells true h g = absurd (omega arith)
-  above-cells false h g = rw (le-ltb x 256 g)
+  above-cells false h g = rw (le-ltb x cellLimit g)
 
   -- m is the operand's lowest bit for a register, and 0 for a cell
   pub odd-one : (r : Bool) (m : ℕ) → m ≡ cond r (x % 2) 0 → (m ≡ 0 → ⊥) → cond r 3 4 ≡ heldRefusal x r area
@@ -83,17 +83,17 @@ module _ (x area : ℕ) where
       even (inr (inr (inr z))) = n (omega arith)
   odd-one false m e n = absurd (n e)
 
-  pub passes : (r : Bool) (m : ℕ) → m ≡ cond r (x % 2) 0 → x < cond r 8 area → x < 256 → m ≡ 0 → 0 ≡ heldRefusal x r area
+  pub passes : (r : Bool) (m : ℕ) → m ≡ cond r (x % 2) 0 → x < cond r 8 area → x < cellLimit → m ≡ 0 → 0 ≡ heldRefusal x r area
   unfolding registerRefusal cellRefusal isCell
   passes true m e h g z = rw (is-register x (even-small x h (omega arith)))
-  passes false m e h g z = rw (lt-ltb x 256 g, lt-ltb x area h)
+  passes false m e h g z = rw (lt-ltb x cellLimit g, lt-ltb x area h)
 
 -- what the operand is held to, as the code chose it: a limit, and an odd bit
 pub record Judged (x : ℕ) (register : Bool) (area limit odd number : ℕ) : Type 0 where
   pub above : limit ≤ x → number ≡ heldRefusal x register area
-  pub beyond : x < limit → 256 ≤ x → number ≡ heldRefusal x register area
+  pub beyond : x < limit → cellLimit ≤ x → number ≡ heldRefusal x register area
   pub uneven : (bitAnd x odd ≡ 0 → ⊥) → number ≡ heldRefusal x register area
-  pub good : x < limit → x < 256 → bitAnd x odd ≡ 0 → 0 ≡ heldRefusal x register area
+  pub good : x < limit → x < cellLimit → bitAnd x odd ≡ 0 → 0 ≡ heldRefusal x register area
 
 odd-bit : (x : ℕ) (r : Bool) → bitAnd x (cond r 1 0) ≡ cond r (x % 2) 0
 odd-bit x true = and-mask x 1
@@ -139,7 +139,7 @@ kinds-at (f ∷ fs) n e (suc i) h =
     let z : n + suc i ≡ suc n + i = omega arith in
     rw z (kinds-at fs (suc n) (u .1) i (le-of-suc-le-suc h))
 
-kind-of : (o : ℕ) → 1 ≤ o → o ≤ 11 → KindOf o (formOf o)
+kind-of : (o : ℕ) → 1 ≤ o → o ≤ lastOperation → KindOf o (formOf o)
 kind-of zero p h = absurd (not-suc-le-zero p)
 kind-of (suc o) p h = let z : 1 + o ≡ suc o = omega arith in rw (← z) (kinds-at (drop 1 table) 1 refl o (omega arith))
 
@@ -154,11 +154,11 @@ by-its-operation areas x o e =
 formless : (o : ℕ) → (operationRefusal o ≡ 0 → ⊥) → formOf o ≡ Unknown
 unfolding operationRefusal
 formless zero n = refl
-formless (suc o) n = go (ltb 11 (suc o)) refl
+formless (suc o) n = go (ltb lastOperation (suc o)) refl
   where
-    go : (b : Bool) → ltb 11 (suc o) ≡ b → formOf (suc o) ≡ Unknown
-    go true e = List·getD-eq-default table Unknown (ltb-true 11 (suc o) e)
-    go false e = absurd (n (rw (le-leb 1 (suc o) (omega arith), le-leb (suc o) 11 (ltb-false 11 (suc o) e))))
+    go : (b : Bool) → ltb lastOperation (suc o) ≡ b → formOf (suc o) ≡ Unknown
+    go true e = List·getD-eq-default table Unknown (ltb-true lastOperation (suc o) e)
+    go false e = absurd (n (rw (le-leb 1 (suc o) (omega arith), le-leb (suc o) lastOperation (ltb-false lastOperation (suc o) e))))
 
 pub by-none : (areas : Areas) (x o : ℕ) → (operationRefusal o ≡ 0 → ⊥) → 0 ≡ operandRefusal areas (formOf o) x
 by-none areas x o n = rw (formless o n)

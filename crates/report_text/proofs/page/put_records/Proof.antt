@@ -3,6 +3,7 @@ use Prim.Native.Nat.{_-_, _*_, _≤_}
 use native.Mathlib.Omega.{arith}
 use borrow.Author.Needs.{needs}
 use lib.ListN.{length}
+use Rattle.theory_report.specs.Report.{logRoom}
 use Rattle.printing.specs.Put.{PutIn}
 use Rattle.report_text.specs.Put.{recordLimit}
 use Rattle.printing.proofs.Putting.{put-none, put-length, within, in-then, left-room}
@@ -31,7 +32,7 @@ loop-again c =
     let g = c .before .before .before .before .before .before in
     let log = s .args .t4 in
     let i = g .loop .i in
-    let n : length log ≡ 2048 = search needs in (
+    let n : length log ≡ logRoom = search needs in (
       omega arith,
       rw (first-next log i (omega (arith, s .pre .0, c .before .before .before .before .before .loop-test .taken)), limit-next i) (in-then (g .loop .inv .1) (c .before .before .put-record .ensures)),
     )

@@ -13,8 +13,8 @@ use denote.Ref.{now}
 use Rattle.machine_parts.specs.View.{lent}
 use Rattle.machine_parts.proofs.Seen.{any-default}
 use Rattle.one_at_a_time.proofs.Decoded.{Decoded, decoded}
-use Rattle.one_at_a_time.proofs.one_at_a_time.execute.Statement.{statement}
-use Rattle.one_at_a_time.proofs.one_at_a_time.execute.Tie as tie
+use Rattle.one_at_a_time.proofs.execute.Statement.{statement}
+use Rattle.one_at_a_time.proofs.execute.Tie as tie
 
 -- the word, decoded, in the arm of a form
 read : (c : tie.After-operand-of) (form : Form) → c .before .before .before .form-of .result ≡ form

@@ -9,8 +9,8 @@ use denote.Ref.{now}
 use Rattle.machine_parts.specs.View.{lent}
 use Rattle.machine_parts.proofs.Checked.{list-passes, run-refused, run-taken}
 use Rattle.one_at_a_time.proofs.Runs.{Running, running-none, running-checked, running-four, running-more, running-all}
-use Rattle.one_at_a_time.proofs.one_at_a_time.one_at_a_time.Statement.{statement}
-use Rattle.one_at_a_time.proofs.one_at_a_time.one_at_a_time.Tie as tie
+use Rattle.one_at_a_time.proofs.one_at_a_time.Statement.{statement}
+use Rattle.one_at_a_time.proofs.one_at_a_time.Tie as tie
 
 abbrev Inv-loop : tie.InvT-loop
 Inv-loop words operands results₀ refused registers₀ place₀ place-end results registers place = Running words operands registers₀ results₀ registers results place
