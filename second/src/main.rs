@@ -60,7 +60,7 @@ const COMMANDS: &[Command] = &[
     Command {
         name: "schedule",
         usage: "TEXT > FILE",
-        about: "Makes a schedule from `issue`, `arrive 2`, `complete 10`, `grant 2`, `release 1`, `code 23`, one a line.",
+        about: "Makes a schedule from lines such as `issue`, `grant 2` and `code 23`.",
         run: texts::schedule,
     },
     Command {

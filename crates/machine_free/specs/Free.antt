@@ -1,4 +1,4 @@
--- What only the code's contracts cite: the lowest free slot of a row and whether a cell is live, as theory has them of the row alone.
+-- What only the code's contracts cite: the lowest free slot of a row and whether a cell is live, as the theory has them of the row alone.
 use mathlib.Core.Bool.{Bool, _&&_, not}
 use mathlib.Core.Option.{Option, none, some}
 use mathlib.Core.List.{List}
@@ -18,7 +18,7 @@ abbrev pub viewFreeSlot : FreeSlot → Option ℕ
 viewFreeSlot (At i) = some i
 viewFreeSlot Nothing = none
 
--- THE LOWEST-NUMBERED FREE ONE of a row: order's, of the row alone
+-- THE LOWEST-NUMBERED FREE ONE of a row: the theory's, of the row alone
 abbrev pub lowestBufferIn : List (theory.Buffer Float) → Option ℕ
 lowestBufferIn bs = first (λ i. isFreeBuffer (getD bs i freeBuffer)) 0 bufferCount
 

@@ -27,7 +27,7 @@ use Rattle.machine_slots.proofs.made.free_store.Reads as free-store-rea
 use Rattle.machine_slots.proofs.made.pending.Kinds as pending-kinds
 use Rattle.machine_slots.proofs.made.pending.Reads as pending-reads
 
--- back from a step of order
+-- back from a step of the theory
 abbrev stepBack : codes.Step → Step
 stepBack codes.unknownCode = Unknown
 stepBack codes.issue = Issue

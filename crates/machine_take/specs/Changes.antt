@@ -1,4 +1,4 @@
--- What only the contracts of private functions cite: a change that the code has found out, as theory's answer of a step.
+-- What only the contracts of private functions cite: a change that the code has found out, as the theory's answer of a step.
 use mathlib.Core.Path.{_≡_}
 use mathlib.Core.Option.{some}
 use mathlib.Core.List.{List, map}
