@@ -34,3 +34,12 @@ module _ (v : ℕ) where
       go true b = omega arith
       go false true = omega arith
       go false false = omega arith
+
+  -- and more than one where one group does not hold it
+  pub two-or-more : 128 ≤ v → 2 ≤ length (bytesOf v)
+  unfolding bytesOf
+  two-or-more p = rw (le-ltb v 128 p) (go (ltb (v / 128) 128))
+    where
+      go : (b : Bool) → 2 ≤ length ((128 + v % 128) ∷ cond b (v / 128 ∷ []) ((128 + v / 128 % 128) ∷ (v / 128 / 128) ∷ []))
+      go true = omega arith
+      go false = omega arith

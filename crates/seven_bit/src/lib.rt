@@ -1,9 +1,8 @@
 // Numbers in groups of seven bits, low group first: read and written.
 use words::refusal;
 ghost use mathlib.Core.Path.{_≡_};
-ghost use Prim.Native.Nat.{_+_, _*_, _≤_, _<_};
+ghost use Prim.Native.Nat.{_+_, _*_, _<_};
 ghost use lib.ListN.{length};
-ghost use lib.Seq.{sets};
 ghost use Rattle.seven_bit.specs.SevenBits.{groupSize, groupOf, numberAt, bytesOf, PutNumber};
 ghost use Rattle.seven_bit.specs.Told.{told};
 
@@ -17,6 +16,7 @@ pub enum Parsed {
 const FOLLOWS: u32 = 0x80;
 
 const GROUP: u32 = 0x7F;
+
 // "above 65,535"
 const NUMBER_LIMIT: u32 = 65535;
 
@@ -91,51 +91,52 @@ fn following(value: u32) -> u8
     ((value & GROUP) | FOLLOWS) as u8
 }
 
+const TWO_BYTES_FROM: u32 = 128;
+
+const THREE_BYTES_FROM: u32 = 16384;
+
 // How many bytes a number takes.
 pub fn number_size(value: u32) -> usize
     ensures { λ r. ⌜ r ≡ length (bytesOf value) ⌝ }
 {
-    if value < 128 {
+    if value < TWO_BYTES_FROM {
         return 1;
     }
-    if value < 16384 {
+    if value < THREE_BYTES_FROM {
         return 2;
     }
     3
-}
-
-// Stores a number that fits, where there is room, and answers the place after it.
-fn store_number(value: u32, bytes: &mut [u8], at: usize) -> usize
-    requires { ⌜ (value < 65536) × (at + length (bytesOf value) ≤ length (now bytes)) ⌝ }
-    ensures { λ r. ⌜ (r ≡ at + length (bytesOf value)) × (now (bytes .exit) ≡ sets (now (bytes .entry)) at (bytesOf value)) ⌝ }
-{
-    if value < 128 {
-        bytes[at] = value as u8;
-        return at + 1;
-    }
-    bytes[at] = following(value);
-    let second = value >> 7;
-    if second < 128 {
-        bytes[at + 1] = second as u8;
-        return at + 2;
-    }
-    bytes[at + 1] = following(second);
-    bytes[at + 2] = (second >> 7) as u8;
-    at + 3
 }
 
 // A number at a place, and the place after it. One that is above the limit, or has no room there, is not written, and the place stays.
 pub fn put_number(value: u32, bytes: &mut [u8], at: usize) -> usize
     ensures { λ r. ⌜ PutNumber value (now (bytes .entry)) (now (bytes .exit)) at r ⌝ }
 {
-    if NUMBER_LIMIT < value {
-        return at;
-    }
     if bytes.len() <= at {
         return at;
     }
-    if bytes.len() - at < number_size(value) {
+    let left = bytes.len() - at;
+    if value < FOLLOWS {
+        bytes[at] = value as u8;
+        return at + 1;
+    }
+    if left < 2 {
         return at;
     }
-    store_number(value, bytes, at)
+    let second = value >> 7;
+    if second < FOLLOWS {
+        bytes[at] = following(value);
+        bytes[at + 1] = second as u8;
+        return at + 2;
+    }
+    if left < 3 {
+        return at;
+    }
+    if NUMBER_LIMIT < value {
+        return at;
+    }
+    bytes[at] = following(value);
+    bytes[at + 1] = following(second);
+    bytes[at + 2] = (second >> 7) as u8;
+    at + 3
 }
