@@ -26,7 +26,7 @@ pub enum Name {
 }
 
 // The list or the operands as read: the fault, and how many words or numbers.
-pub struct Found {
+pub struct FileRead {
     pub fault: Fault,
     pub count: usize,
 }
@@ -50,60 +50,60 @@ pub(crate) fn stops(fault: Fault) -> bool
 }
 
 // Missing, then 11, then what the reader says.
-fn read_list(bytes: &[u8], found: bool, words: &mut [u32]) -> Found
+fn read_list(bytes: &[u8], found: bool, words: &mut [u32]) -> FileRead
     requires { ⌜ length (now words) ≡ listLimit ⌝ }
     ensures { λ r. ⌜ ListIs found (now (bytes .entry)) (now (words .exit)) (r .fault) (r .count) ⌝ }
 {
     if !found {
-        return Found {
+        return FileRead {
             fault: Fault::Missing,
             count: 0,
         };
     }
     if FILE_LIMIT < bytes.len() {
-        return Found {
+        return FileRead {
             fault: Fault::Refused(refusal::ROOM, FILE_LIMIT),
             count: 0,
         };
     }
     let list = read(bytes, words);
     if list.refusal != 0 {
-        return Found {
+        return FileRead {
             fault: Fault::Refused(list.refusal, list.place),
             count: 0,
         };
     }
-    Found {
+    FileRead {
         fault: Fault::Nothing,
         count: list.count,
     }
 }
 
 // Missing, then 11, then what the reader says.
-fn read_cells(bytes: &[u8], found: bool, cells: &mut [f64]) -> Found
+fn read_cells(bytes: &[u8], found: bool, cells: &mut [f64]) -> FileRead
     requires { ⌜ length (now cells) ≡ cellLimit ⌝ }
     ensures { λ r. ⌜ CellsAre found (now (bytes .entry)) (now (cells .exit)) (r .fault) (r .count) ⌝ }
 {
     if !found {
-        return Found {
+        return FileRead {
             fault: Fault::Missing,
             count: 0,
         };
     }
     if FILE_LIMIT < bytes.len() {
-        return Found {
+        return FileRead {
             fault: Fault::Refused(refusal::ROOM, FILE_LIMIT),
             count: 0,
         };
     }
     let operands = read_operands(bytes, cells);
     if operands.refusal != 0 {
-        return Found {
+        return FileRead {
             fault: Fault::Refused(operands.refusal, operands.place),
             count: 0,
         };
     }
-    Found {
+    FileRead {
         fault: Fault::Nothing,
         count: operands.count,
     }
@@ -149,13 +149,13 @@ pub(crate) fn begin(
     requires { ⌜ (length (now words) ≡ listLimit) × (length (now cells) ≡ cellLimit) ⌝ }
     ensures { λ r. ⌜ Begins named (now (list .entry)) (now (operands .entry)) (now (schedule .entry)) (now (words .exit)) (now (cells .exit)) r ⌝ }
 {
-    let found = read_list(list, named.list, words);
-    let fault = found.fault;
+    let words_read = read_list(list, named.list, words);
+    let fault = words_read.fault;
     if stops(fault) {
         return at_fault(Name::List, fault);
     }
-    let numbers = read_cells(operands, named.operands, cells);
-    let second = numbers.fault;
+    let cells_read = read_cells(operands, named.operands, cells);
+    let second = cells_read.fault;
     if stops(second) {
         return at_fault(Name::Operands, second);
     }
@@ -163,12 +163,12 @@ pub(crate) fn begin(
     if stops(third) {
         return at_fault(Name::Schedule, third);
     }
-    let count = found.count;
-    let last = areas_fault(&words[..count], numbers.count);
+    let count = words_read.count;
+    let last = areas_fault(&words[..count], cells_read.count);
     Begun {
         name: Name::Areas,
         fault: last,
         words: count,
-        operands: numbers.count,
+        operands: cells_read.count,
     }
 }
