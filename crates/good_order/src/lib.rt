@@ -1,4 +1,6 @@
 // Good order of a whole machine (01, "Good order"), and the check that entries begin with.
+#![tactic(auto)]
+
 mod givers;
 mod row_rules;
 mod slot_rules;

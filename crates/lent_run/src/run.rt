@@ -46,7 +46,7 @@ pub fn run_schedule(
 pub const LOG_ROOM: usize = 2048;
 
 // What a run by value answers: the run, and the log with its records.
-#[derive(Drop)]
+#[derive(Clone, Copy)]
 pub struct Logged {
     pub run: Progress,
     pub log: [Record; LOG_ROOM],

@@ -1,11 +1,13 @@
 // One step of the caller's own machine. The step itself is crate machine_steps's, by value.
+#![tactic(auto)]
+
 ghost use Rattle.lent_step.specs.InPlace.{InPlace};
 
 use machine_parts::Machine;
 use machine_steps::step::step;
 
 // What the entry by value answers: the machine, and a refusal number of 01 (0 for accepted).
-#[derive(Drop)]
+#[derive(Clone, Copy)]
 pub struct Placed {
     pub machine: Machine,
     pub refusal: u32,

@@ -10,7 +10,7 @@ use seven_bit::number_size;
 use words::{LIST_LIMIT, NO_AREAS, refusal};
 
 // What the first pass finds: the list check's answer, and the file's length if that is 0.
-#[derive(Drop)]
+#[derive(Clone, Copy)]
 struct Measured {
     refusal: u32,
     place: usize,

@@ -1,4 +1,6 @@
 // One slot at a time: whether it waits for a tag, and what it becomes.
+#![tactic(auto)]
+
 ghost use Rattle.std.specs.Prelude.{◌≡◌};
 ghost use Rattle.theory_machine.specs.Steps.{give, give_station, give_store};
 ghost use Rattle.machine_parts.specs.View.{view_operand, view_register, view_station, view_store};

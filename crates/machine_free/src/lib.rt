@@ -1,4 +1,6 @@
 // "Issue, always using the lowest-numbered free one": the finders.
+#![tactic(auto)]
+
 ghost use Rattle.std.specs.Prelude.{◌≡◌, ◌&&◌, map, ◌<◌};
 ghost use Rattle.theory_machine.specs.Tags.{suits, station_count};
 ghost use Rattle.theory_machine.specs.Machine.{is_free_buffer, is_free_station, is_free_store, store_cell};
@@ -10,7 +12,7 @@ use machine_parts::{Buffer, BufferState, Station, StationState, StoreBuffer, Sto
 use numbers::Operation;
 
 // A slot by its index from 0, or none.
-#[derive(Drop)]
+#[derive(Clone, Copy)]
 pub enum FreeSlot {
     At(usize),
     Nothing,

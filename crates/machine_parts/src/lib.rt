@@ -1,4 +1,6 @@
 // What the machine of document 01 holds (01, "Tags and what the machine holds"), and a fresh machine. In each enum the free case comes first: an array's default is free.
+#![tactic(auto)]
+
 pub mod start;
 
 ghost use Rattle.std.specs.Prelude.{◌≡◌};
@@ -9,7 +11,7 @@ ghost use Rattle.theory_machine.specs.Instruction.{index_of};
 use numbers::Operation;
 
 // A tag: a buffer's or a station's number.
-#[derive(Drop)]
+#[derive(Clone, Copy)]
 pub struct Tag(pub u8);
 
 impl Tag {
@@ -75,13 +77,13 @@ impl Tag {
 }
 
 // "An operand is either a number or the tag it waits for."
-#[derive(Drop)]
+#[derive(Clone, Copy)]
 pub enum Operand {
     Number(f64),
     Waits(Tag),
 }
 
-#[derive(Drop)]
+#[derive(Clone, Copy)]
 pub struct Register {
     pub operand: Operand,
 }
@@ -98,33 +100,33 @@ impl Register {
 }
 
 // A buffer that waits for its cell's number.
-#[derive(Drop)]
+#[derive(Clone, Copy)]
 pub struct Fetch {
     pub place: usize,
     pub cell: usize,
 }
 
 // A full buffer: its cell's number.
-#[derive(Drop)]
+#[derive(Clone, Copy)]
 pub struct Fetched {
     pub place: usize,
     pub number: f64,
 }
 
-#[derive(Drop)]
+#[derive(Clone, Copy)]
 pub enum BufferState {
     Free,
     Waiting(Fetch),
     Full(Fetched),
 }
 
-#[derive(Drop)]
+#[derive(Clone, Copy)]
 pub struct Buffer {
     pub state: BufferState,
 }
 
 // A station that holds an operation and its two operands.
-#[derive(Drop)]
+#[derive(Clone, Copy)]
 pub struct Work {
     pub place: usize,
     pub operation: Operation,
@@ -133,39 +135,39 @@ pub struct Work {
 }
 
 // A station that is done: its result.
-#[derive(Drop)]
+#[derive(Clone, Copy)]
 pub struct Worked {
     pub place: usize,
     pub number: f64,
 }
 
-#[derive(Drop)]
+#[derive(Clone, Copy)]
 pub enum StationState {
     Free,
     Holding(Work),
     Done(Worked),
 }
 
-#[derive(Drop)]
+#[derive(Clone, Copy)]
 pub struct Station {
     pub state: StationState,
 }
 
 // A store that waits for its release.
-#[derive(Drop)]
+#[derive(Clone, Copy)]
 pub struct Pending {
     pub place: usize,
     pub cell: usize,
     pub operand: Operand,
 }
 
-#[derive(Drop)]
+#[derive(Clone, Copy)]
 pub enum StoreState {
     Free,
     Live(Pending),
 }
 
-#[derive(Drop)]
+#[derive(Clone, Copy)]
 pub struct StoreBuffer {
     pub state: StoreState,
 }
@@ -179,7 +181,7 @@ impl StoreBuffer {
     pub const COUNT: usize = (Self::LAST - Self::FIRST) as usize + 1;
 }
 
-#[derive(Drop)]
+#[derive(Clone, Copy)]
 pub struct Machine {
     pub next: usize,
     pub registers: [Register; Register::COUNT],
@@ -189,21 +191,21 @@ pub struct Machine {
 }
 
 // A record of the release log.
-#[derive(Drop)]
+#[derive(Clone, Copy)]
 pub struct Record {
     pub place: usize,
     pub cell: usize,
     pub number: f64,
 }
 
-#[derive(Drop)]
+#[derive(Clone, Copy)]
 pub enum Released {
     Nothing,
     One(Record),
 }
 
 // The answer of a step: the machine, a refusal number of 01 (0 for accepted), and what was released.
-#[derive(Drop)]
+#[derive(Clone, Copy)]
 pub struct Stepped {
     pub machine: Machine,
     pub refusal: u32,

@@ -12,7 +12,7 @@ use crate::{
 use words::{Areas, check_list_against, refusal};
 
 // The answer of a start: the machine, and a refusal number of 01, 0 for accepted.
-#[derive(Drop)]
+#[derive(Clone, Copy)]
 pub struct FreshMachine {
     pub machine: Machine,
     pub refusal: u32,

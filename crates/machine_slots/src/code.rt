@@ -5,7 +5,7 @@ ghost use Rattle.machine_slots.specs.Slots.{ReadsAs};
 use machine_parts::{StoreBuffer, Tag};
 
 // base + first to base + last.
-#[derive(Drop)]
+#[derive(Clone, Copy)]
 pub struct CodeRow {
     pub base: u32,
     pub first: u32,
@@ -78,7 +78,7 @@ const LAST_RELEASE: u32 = CODES[5].base + CODES[5].last;
 pub const CODE_LIMIT: u32 = CODES[ROWS - 1].base + CODES[ROWS - 1].last + 1;
 
 // A step: the slot by its index from 0.
-#[derive(Drop)]
+#[derive(Clone, Copy)]
 pub enum Step {
     Unknown,
     Issue,

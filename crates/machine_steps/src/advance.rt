@@ -10,7 +10,7 @@ use words::{Areas, refusal};
 
 // How far a run has come, and its answer: machine, steps done, byte place of the refused code (or the length), refusal, records written. Only
 // `begun` makes one from a machine, since `going` is private: so good order, once tested, need not be tested again.
-#[derive(Drop)]
+#[derive(Clone, Copy)]
 pub struct Progress {
     pub machine: Machine,
     pub steps: usize,
@@ -21,7 +21,7 @@ pub struct Progress {
 }
 
 // Where a run stops: at a release, with the record and the index of the log that it goes to, or for good.
-#[derive(Drop)]
+#[derive(Clone, Copy)]
 pub struct Stop {
     pub progress: Progress,
     pub made: Record,

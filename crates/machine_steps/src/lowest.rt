@@ -11,14 +11,14 @@ use machine_slots::code::CODE_LIMIT;
 use machine_take::taking::take_codes;
 use words::{Areas, refusal};
 
-#[derive(Drop)]
+#[derive(Clone, Copy)]
 pub enum Lowest {
     Nothing,
     Code(u32),
 }
 
 // The answer of `lowest_step`: a refusal number of 01, 0 for accepted, and the smallest permitted code, or none.
-#[derive(Drop)]
+#[derive(Clone, Copy)]
 pub struct LowestStep {
     pub refusal: u32,
     pub code: Lowest,

@@ -13,7 +13,7 @@ use machine_parts::{
 use numbers::Operation;
 use words::refusal;
 
-#[derive(Drop)]
+#[derive(Clone, Copy)]
 pub enum Change {
     Refused(u32),
     // a load, or arithmetic with a cell: R1, the cell, the buffer; of arithmetic also the station

@@ -14,7 +14,7 @@ use seven_bit::{Parsed, number_at};
 use words::refusal;
 
 // Where a row of codes stops: the refusal that stopped it, 0 at a release or at the end, and the steps done.
-#[derive(Drop)]
+#[derive(Clone, Copy)]
 pub struct Taken {
     pub machine: Machine,
     pub steps: usize,

@@ -1,8 +1,10 @@
 // A file that an argument of the program names. What is read stands in no contract: only that it fits the lent bytes.
+#![tactic(auto)]
+
 ghost use Rattle.std.specs.Prelude.{◌≤◌, length};
 
 // What was read of a file: whether it was named, opened and read to its end or to the buffer's, and how many bytes.
-#[derive(Drop)]
+#[derive(Clone, Copy)]
 pub struct FileRead {
     pub found: bool,
     pub size: usize,

@@ -1,9 +1,11 @@
 // Numbers: binary64, their patterns of 64 bits, and the four operations (01, "The section that is modelled").
+#![tactic(auto)]
+
 ghost use Rattle.std.specs.Prelude.{◌≡◌};
 ghost use Rattle.numbers.specs.Number.{apply, pattern_of, number_of};
 
 // The operations of 01's instruction table.
-#[derive(Drop)]
+#[derive(Clone, Copy)]
 pub enum Operation {
     Add,
     Subtract,

@@ -1,4 +1,6 @@
 // The one-at-a-time run (01's table of instructions, and "Refusal numbers").
+#![tactic(auto)]
+
 ghost use Rattle.std.specs.Prelude.{◌≡◌, [], length};
 ghost use Rattle.words.specs.Check.{word_refusal};
 ghost use Rattle.theory_machine.specs.Tags.{register_count};
@@ -14,7 +16,7 @@ use machine_parts::Register;
 use words::{Areas, Form, check_list_against, refusal};
 
 // The answer of a run: the registers, the start numbers when refused, and a refusal number of 01, 0 for accepted.
-#[derive(Drop)]
+#[derive(Clone, Copy)]
 pub struct OneAtATime {
     pub registers: [f64; Register::COUNT],
     pub refusal: u32,

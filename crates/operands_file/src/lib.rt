@@ -1,4 +1,6 @@
 // The operands file of document 01 ("The report program"): big-endian patterns of 8 bytes, at most 256.
+#![tactic(auto)]
+
 ghost use Rattle.std.specs.Prelude.{◌≡◌, ◌+◌, ◌*◌, ◌≤◌, ◌<◌, length};
 ghost use Rattle.std.proofs.lemmas.List.Edits.{sets};
 ghost use Rattle.operands_file.specs.Operands.{pattern_size, pattern_at, operands_in};
@@ -12,7 +14,7 @@ const PATTERN_SIZE: usize = 8;
 const OPERANDS_LIMIT: usize = CELL_LIMIT * PATTERN_SIZE;
 
 // The reader's answer: a refusal number of 01, 0 for accepted, with its place; and how many numbers were stored.
-#[derive(Drop)]
+#[derive(Clone, Copy)]
 pub struct OperandsRead {
     pub refusal: u32,
     pub place: usize,

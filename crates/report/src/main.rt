@@ -1,4 +1,6 @@
 // The report program of document 01. It is given three names: list, operands and schedule. Names after the third are ignored.
+#![tactic(auto)]
+
 use libc::STDOUT_FILENO;
 use named_file::read_named;
 use report_text::FilesFound;

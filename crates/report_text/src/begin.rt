@@ -14,7 +14,7 @@ use printing::Fault;
 use words::{Areas, CELL_LIMIT, check_list_against, refusal};
 
 // What a stop line names.
-#[derive(Drop)]
+#[derive(Clone, Copy)]
 pub enum Name {
     List,
     Operands,
@@ -23,14 +23,14 @@ pub enum Name {
 }
 
 // The list or the operands as read: the fault, and how many words or numbers.
-#[derive(Drop)]
+#[derive(Clone, Copy)]
 pub struct FileRead {
     pub fault: Fault,
     pub count: usize,
 }
 
 // Where a report begins: the first fault with its name, if there is one, and how many words and operand cells were read.
-#[derive(Drop)]
+#[derive(Clone, Copy)]
 pub struct Begun {
     pub name: Name,
     pub fault: Fault,

@@ -1,4 +1,6 @@
 // The report of document 01 as text in a lent row of bytes.
+#![tactic(auto)]
+
 mod begin;
 mod faults;
 mod page;
@@ -7,7 +9,7 @@ mod stop;
 mod told;
 
 // Whether each file was named and opened.
-#[derive(Drop)]
+#[derive(Clone, Copy)]
 pub struct FilesFound {
     pub list: bool,
     pub operands: bool,

@@ -1,4 +1,6 @@
 // Numbers in groups of seven bits, low group first: read and written.
+#![tactic(auto)]
+
 ghost use Rattle.std.specs.Prelude.{◌≡◌, ◌+◌, ◌*◌, ◌<◌, length};
 ghost use Rattle.seven_bit.specs.SevenBits.{group_size, group_of, number_at, bytes_of, PutNumber};
 ghost use Rattle.seven_bit.specs.Told.{told};
@@ -6,7 +8,7 @@ ghost use Rattle.seven_bit.specs.Told.{told};
 use words::refusal;
 
 // What stands at a place of a file: a value and the place after it, or a refusal number of 01 with its place.
-#[derive(Drop)]
+#[derive(Clone, Copy)]
 pub enum Parsed {
     Accepted(u32, usize),
     Refused(u32, usize),

@@ -1,4 +1,6 @@
 // Steps left, and whether a machine is drained (01, "Steps" and "Drained").
+#![tactic(auto)]
+
 ghost use Rattle.std.specs.Prelude.{◌≡◌, map, length, drop};
 ghost use Rattle.theory_machine.specs.Rows.{sum};
 ghost use Rattle.theory_machine.specs.Instruction.{decode};
@@ -17,7 +19,7 @@ use machine_parts::{
 use words::{Areas, Form, refusal};
 
 // The answer of a count: a refusal number of 01, 0 for accepted, and the steps left, 0 when refused.
-#[derive(Drop)]
+#[derive(Clone, Copy)]
 pub struct Left {
     pub refusal: u32,
     pub left: usize,

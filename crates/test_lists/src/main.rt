@@ -1,5 +1,7 @@
 // A test program: reads, checks and writes the lists that its arguments name, and prints what came of it.
 // A name that begins with f is a list file, read with room for 4,096 words; s: with room for 2; w: words of four bytes, high byte first.
+#![tactic(auto)]
+
 ghost use Rattle.std.specs.Prelude.{◌+◌, ◌≤◌, ◌<◌, length};
 
 use libc::STDOUT_FILENO;

@@ -7,7 +7,7 @@ use machine_parts::{
 use numbers::Operation;
 
 // A machine, and the place of the session's next number.
-#[derive(Drop)]
+#[derive(Clone, Copy)]
 pub(crate) struct Standing {
     pub machine: Machine,
     pub at: usize,

@@ -1,5 +1,7 @@
 // A test program: takes the steps of the sessions that its arguments name, and prints what came of each.
 // A session is a text of whole numbers (scan.rt); second/src/commands/steps.rs says what stands where.
+#![tactic(auto)]
+
 use crate::say::text;
 
 mod changes;

@@ -1,4 +1,6 @@
 // Words and lists of document 01: fields, the instruction table, and the check of a word and of a list.
+#![tactic(auto)]
+
 ghost use Rattle.std.specs.Prelude.{◌≡◌, cond};
 ghost use Rattle.words.specs.Instructions.{operation_field, r1_field, operand_field, form_of};
 ghost use Rattle.words.specs.Operands.{held_refusal};
@@ -14,7 +16,7 @@ pub const LIST_LIMIT: usize = 4096;
 pub const CELL_LIMIT: usize = 256;
 
 // The lengths of the two areas, where nothing else of them is wanted.
-#[derive(Drop)]
+#[derive(Clone, Copy)]
 pub struct Areas {
     pub operands: usize,
     pub results: usize,
@@ -35,7 +37,7 @@ const STORE: u32 = 11;
 const LAST_OPERATION: u32 = 11;
 
 // What a word asks for, by its operation's number.
-#[derive(Drop)]
+#[derive(Clone, Copy)]
 pub enum Form {
     Unknown,
     LD,
@@ -46,7 +48,7 @@ pub enum Form {
 }
 
 // The answer of a check: a refusal number of 01, 0 for accepted, with its place.
-#[derive(Drop)]
+#[derive(Clone, Copy)]
 pub struct Verdict {
     pub refusal: u32,
     pub place: usize,

@@ -1,0 +1,32 @@
+use mathlib.Core.Path.{◌≡◌, sym, ap, ◌∙◌}
+use borrow.Author.Tests.{not-true, not-false}
+use borrow.Author.Rules.{rules}
+use Rattle.words.specs.declared.Verdict.{Verdict}
+use Rattle.words.specs.Check.{list_check}
+use Rattle.theory_machine.specs.Binary64.{binary64}
+use Rattle.theory_machine.proofs.Checks.{by_list, by_order, both_pass}
+use Rattle.machine_parts.specs.View.{view}
+use Rattle.good_order.proofs.entry_refusal.Goals as goal
+use Rattle.good_order.proofs.entry_refusal.Lts as place
+
+-- the check's answer, by its refusal
+checked : (c : place.After-check_list_against-refused) → let a = c.args in
+    c.check_list_against-refused.result.refusal ≡ (list_check a.areas a.words.now).refusal
+checked c = ap (λ (v : Verdict). v.refusal) c.check_list_against-refused.ensures
+
+pub returns-then-refused-ne-ACCEPTED : goal.returns-then-refused-ne-ACCEPTED
+returns-then-refused-ne-ACCEPTED c =
+    let a = c.args in
+    checked c ∙ sym (by_list binary64 a.words.now a.areas (view a.m) (λ z. c.if-refused-ne-ACCEPTED.true (checked c ∙ z)))
+
+pub returns-then-not-in_good_order : goal.returns-then-not-in_good_order
+returns-then-not-in_good_order c =
+    let a = c.args in
+    sym (by_order binary64 a.words.now a.areas (view a.m) (sym (checked c) ∙ c.if-refused-ne-ACCEPTED.false)
+    (sym c.in_good_order.ensures ∙ not-true _ c.if-not-in_good_order.true))
+
+pub returns : goal.returns
+returns c =
+    let a = c.args in
+    sym (both_pass binary64 a.words.now a.areas (view a.m) (sym (checked c) ∙ c.if-refused-ne-ACCEPTED.false)
+    (sym c.in_good_order.ensures ∙ not-false _ c.if-not-in_good_order.false))

@@ -1,0 +1,15 @@
+use Prim.Native.Nat.{◌-◌}
+use native.Mathlib.Omega.{arith}
+use borrow.Author.Rules.{rules}
+use Rattle.theory_machine.specs.Machine.{free_store}
+use Rattle.good_order.proofs.Loops.{Passed, passed_none, passed_more, passed_stop, passed_all}
+use Rattle.machine_parts.specs.declared.StoreState.TheVariants as store
+use Rattle.machine_parts.specs.View.{view_store}
+use Rattle.good_order.specs.SlotRules.{place_in, store_good}
+use Rattle.good_order.proofs.row_rules.stores_good.Given as goal
+
+abbrev pub invariant-loop-i : goal.invariant-loop-i
+invariant-loop-i l = Passed view_store free_store 3 (λ k s. store_good (place_in l.places) l.next l.results s) l.stores l.i
+
+abbrev pub decreases-loop-i : goal.decreases-loop-i
+decreases-loop-i l = 3 - l.i

@@ -1,0 +1,18 @@
+use mathlib.Core.Path.{◌≡◌, sym, ap, ◌∙◌}
+use Prim.Native.Nat.{◌%◌}
+use lib.Dec.{eqb}
+use borrow.Author.Rules.{rules}
+use Rattle.words.specs.Operands.{held_refusal}
+use Rattle.words.proofs.Operands.{by_none, by_its_operation}
+use Rattle.words.proofs.operand_refusal.Goals as goal
+
+pub returns-then-operation_refusal-ne0 : goal.returns-then-operation_refusal-ne0
+returns-then-operation_refusal-ne0 c =
+    let a = c.args in
+    by_none a.areas a.operand a.operation (λ e. c.if-operation_refusal-ne0.true (c.operation_refusal.ensures ∙ e))
+
+pub returns : goal.returns
+returns c =
+    let a = c.args in
+    c.held_refusal.ensures ∙ ap (held_refusal a.operand (eqb (a.operation % 2) 0)) c.chosen-area.ensures
+    ∙ by_its_operation a.areas a.operand a.operation (sym c.operation_refusal.ensures ∙ c.if-operation_refusal-ne0.false)
