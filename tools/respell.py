@@ -23,6 +23,7 @@ CHOSEN = {
     "is-nan": "is_nan_lem",
     "pattern-size": "length-pattern",
     "viewOneAtATime": "view_one_at_a_time",
+    "oneAtATime": "one_at_a_time",
 }
 
 

@@ -1,3 +1,4 @@
 pub mod Determined
 pub mod Search
 pub mod SlotSeen
+pub mod Tested

@@ -7,7 +7,7 @@ ghost use Rattle.theory_machine.specs.Tags.{register_count};
 ghost use Rattle.theory_machine.specs.Machine.{areas_of};
 ghost use Rattle.theory_machine.specs.Instruction.{decode};
 ghost use Rattle.theory_machine.specs.OneAtATime.{execute};
-ghost use Rattle.theory_machine.specs.Entries.{one_at_atime};
+ghost use Rattle.theory_machine.specs.Entries.{one_at_a_time};
 ghost use Rattle.theory_machine.specs.Binary64.{binary64};
 ghost use Rattle.machine_parts.specs.View.{lent, cells_alone};
 ghost use Rattle.one_at_a_time.specs.Answers.{at, view_one_at_a_time};
@@ -63,7 +63,7 @@ pub fn one_at_a_time(
     results: &mut [f64],
     starts: [f64; Register::COUNT],
 ) -> OneAtATime
-    ensures { view_one_at_a_time result results.new ≡ one_at_atime binary64 (lent words.now operands.now results.old) (at starts results.old) }
+    ensures { view_one_at_a_time result results.new ≡ one_at_a_time binary64 (lent words.now operands.now results.old) (at starts results.old) }
 {
     let refused = check_list_against(
         words,

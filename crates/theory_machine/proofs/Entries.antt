@@ -19,7 +19,7 @@ use Rattle.theory_machine.specs.Issue.{is_taken}
 use Rattle.theory_machine.specs.Steps.{perform, in_order, step}
 use Rattle.theory_machine.specs.Count.{words_left, buffer_left, station_left, store_left, count_left}
 use Rattle.theory_machine.specs.OneAtATime.{Run, run_to}
-use Rattle.theory_machine.specs.Entries.{empty_machine, list_refusal, refusal_of_entry, lowest_permitted, fresh, one_at_atime, steps_left, lowest_step}
+use Rattle.theory_machine.specs.Entries.{empty_machine, list_refusal, refusal_of_entry, lowest_permitted, fresh, one_at_a_time, steps_left, lowest_step}
 use Rattle.theory_machine.specs.Statement.{RefusedEntries, Permitted, is_drained, IsLowest}
 use Rattle.theory_machine.proofs.Rows.{bool_cases, absurd_bool, IsFirst, first_some, first_none, get_d_all, sum_zero}
 use Rattle.theory_machine.proofs.Words.{Passes, passes}
@@ -71,7 +71,7 @@ module _ (K : Kind) (L : Lent K.Num) where
 
   -- WHERE A CHECK FAILS
   pub refused_entries_lem : RefusedEntries K L
-  unfolding fresh one_at_atime step
+  unfolding fresh one_at_a_time step
   refused_entries_lem = (
     λ z. let e : eqb (list_refusal K L) 0 ≡ false = ne_eqb (list_refusal K L) 0 z in
         record {
@@ -107,8 +107,8 @@ module _ (K : Kind) (L : Lent K.Num) where
     unfolding fresh
     fresh-is starts = rw (eq-eqb (list_refusal K L) 0 z)
 
-    pub one_at_a_time_is : (start : Run K.Num) → one_at_atime K L start ≡ record { refusal = 0; run = run_to K L start (length L.words) }
-    unfolding one_at_atime
+    pub one_at_a_time_is : (start : Run K.Num) → one_at_a_time K L start ≡ record { refusal = 0; run = run_to K L start (length L.words) }
+    unfolding one_at_a_time
     one_at_a_time_is start = rw (eq-eqb (list_refusal K L) 0 z)
 
     pub left_is : (m : Machine K.Num) → in_order K L m ≡ true → steps_left K L m ≡ record { refusal = 0; left = count_left L.words m }

@@ -58,8 +58,8 @@ module _ (K : Kind) (L : Lent K.Num) where
       (record { refusal = 0; machine = empty_machine starts })
 
   -- "the one-at-a-time run need[s] a list that passes against its areas; .. Refused, .. gives the start numbers back"
-  unfoldable pub one_at_atime : (start : Run K.Num) → OneAtATime K.Num
-  one_at_atime start =
+  unfoldable pub one_at_a_time : (start : Run K.Num) → OneAtATime K.Num
+  one_at_a_time start =
       cond (not (eqb list_refusal 0)) (record { refusal = list_refusal; run = start })
       (record { refusal = 0; run = run_to K L start (length L.words) })
 

@@ -11,7 +11,7 @@ use Rattle.theory_machine.specs.Issue.{refused, instruction_at}
 use Rattle.theory_machine.specs.Steps.{perform, in_order, step}
 use Rattle.theory_machine.specs.Count.{words_left}
 use Rattle.theory_machine.specs.OneAtATime.{Run, value, run_to}
-use Rattle.theory_machine.specs.Entries.{empty_machine, list_refusal, fresh, one_at_atime, steps_left, lowest_step}
+use Rattle.theory_machine.specs.Entries.{empty_machine, list_refusal, fresh, one_at_a_time, steps_left, lowest_step}
 use Rattle.theory_machine.specs.Asked.{State, written_all, ask, asked, taken_of, begin, lowest_again}
 
 -- OF ANY MACHINE, whether or not a run reaches it
@@ -70,7 +70,7 @@ module _ (K : Kind) (L : Lent K.Num) where
 pub record RefusedList (K : Kind) (L : Lent K.Num) : Type 0 where
   pub of_fresh : (starts : List K.Num)
       → fresh K L starts ≡ record { refusal = list_refusal K L; machine = empty_machine (replicate register_count K.nought) }
-  pub of_run : (start : Run K.Num) → one_at_atime K L start ≡ record { refusal = list_refusal K L; run = start }
+  pub of_run : (start : Run K.Num) → one_at_a_time K L start ≡ record { refusal = list_refusal K L; run = start }
   pub of_steps_left : (m : Machine K.Num) → steps_left K L m ≡ record { refusal = list_refusal K L; left = 0 }
   pub of_lowest_step : (m : Machine K.Num) → lowest_step K L m ≡ record { refusal = list_refusal K L; code = none }
 
@@ -121,8 +121,8 @@ module _ (K : Kind) (L : Lent K.Num) (start : Run K.Num) where
     pub counted : k + (steps_left K L s.machine).left ≡ words_left L.words
     pub none_left : is_drained K L s.machine ≡ true → (steps_left K L s.machine).left ≡ 0
     -- drained: registers and cells are those of the one-at-a-time run, and each store of the list has one record
-    pub registers_right : is_drained K L s.machine ≡ true → s.machine.registers ≡ map num (one_at_atime K L start).run.registers
-    pub cells_right : is_drained K L s.machine ≡ true → s.cells ≡ (one_at_atime K L start).run.cells
+    pub registers_right : is_drained K L s.machine ≡ true → s.machine.registers ≡ map num (one_at_a_time K L start).run.registers
+    pub cells_right : is_drained K L s.machine ≡ true → s.cells ≡ (one_at_a_time K L start).run.cells
     pub each_once : is_drained K L s.machine ≡ true → (q : ℕ) → records_of q s.log ≡ records_due (instruction_at K L q)
 
 -- THE ORDER THEOREM: over every kind of number, every list that passes against its areas, every four start numbers, every start cells as

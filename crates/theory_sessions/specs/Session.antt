@@ -9,7 +9,7 @@ use Rattle.theory_machine.specs.GoodOrder.{drained}
 use Rattle.theory_machine.specs.Issue.{Answer, taken}
 use Rattle.theory_machine.specs.Steps.{step}
 use Rattle.theory_machine.specs.OneAtATime.{Run}
-use Rattle.theory_machine.specs.Entries.{fresh, one_at_atime, steps_left, lowest_step}
+use Rattle.theory_machine.specs.Entries.{fresh, one_at_a_time, steps_left, lowest_step}
 use Rattle.theory_machine.specs.Asked.{State, ask, begin}
 use Rattle.theory_machine.specs.Binary64.{binary64}
 use Rattle.theory_machine.specs.GivenMachines.{Row as GivenRow, IssueRow, of_word}
@@ -76,7 +76,7 @@ seen x =
       left = (steps_left binary64 L m).left;
       drained = drained (length x.words) m;
       lowest = (lowest_step binary64 L m).code;
-      alone = (one_at_atime binary64 L (start_of x)).run;
+      alone = (one_at_a_time binary64 L (start_of x)).run;
     }
 
 -- A ROW: what is done, and what must come out

@@ -102,4 +102,4 @@ pub record RunLogged (w : ScheduleRun Float) (log : List ℕ) (r : Progress) (ce
 
 -- THE ONE-AT-A-TIME RUN, from the numbers in the row of registers
 abbrev pub alone_in : (words : List ℕ) (operands cells registers : List Float) → theory.OneAtATime Float
-alone_in words operands cells registers = theory.one_at_atime binary64 (lent words operands cells) (record { registers = starts_in registers; cells = cells })
+alone_in words operands cells registers = theory.one_at_a_time binary64 (lent words operands cells) (record { registers = starts_in registers; cells = cells })

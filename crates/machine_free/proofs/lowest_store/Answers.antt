@@ -9,24 +9,19 @@ use Rattle.machine_parts.specs.View.{view_store}
 use Rattle.machine_parts.specs.declared.StoreBuffer.{StoreBuffer}
 use Rattle.machine_parts.specs.declared.StoreState.TheVariants.{Free}
 use Rattle.machine_parts.proofs.Seen.{seen}
+use Rattle.machine_free.proofs.Tested.{store_test, store_tested}
 use Rattle.machine_free.proofs.Search.{Looking, looking_none, looking_more, looking_found, looking_end}
 use borrow.Author.Rules.{rules}
 use Rattle.machine_free.proofs.lowest_store.Goals as goal
 
-abbrev test : List StoreBuffer → ℕ → Bool
-test ts i = is_free_store (get_or (map view_store ts) i free_store)
-
-tested : (c : tie.After-store-free invariant-loop decreases-loop) → test c.before.before.before.before.args.t1 c.before.before.before.loop.i ≡ c.store-free.result
-tested c = ap is_free_store (seen view_store c.before.before.before.before.args.t1 _ (record { state = Free }) refl) ∙ sym c.store-free.ensures
-
 pub loop-i-init : goal.loop-i-init
-loop-i-init c = looking_none (test c.args.ts) 3
+loop-i-init c = looking_none (store_test c.args.ts) 3
 
 pub returns-then-store_free : goal.returns-then-store_free
-returns-then-store_free c = looking_found (test c.args.ts) 3 _ c.loop-i.invariant (omega arith) (tested c ∙ c.if-store_free.true)
+returns-then-store_free c = looking_found (store_test c.args.ts) 3 _ c.loop-i.invariant (omega arith) (store_tested c.args.ts _ _ c.store_free.ensures ∙ c.if-store_free.true)
 
 pub loop-i-preserved : goal.loop-i-preserved
-loop-i-preserved c = looking_more (test c.args.ts) 3 _ c.loop-i.invariant (omega arith) (tested c ∙ c.if-store_free.false)
+loop-i-preserved c = looking_more (store_test c.args.ts) 3 _ c.loop-i.invariant (omega arith) (store_tested c.args.ts _ _ c.store_free.ensures ∙ c.if-store_free.false)
 
 pub returns : goal.returns
-returns c = looking_end (test c.args.ts) 3 _ c.loop-i.invariant (omega arith)
+returns c = looking_end (store_test c.args.ts) 3 _ c.loop-i.invariant (omega arith)

@@ -9,12 +9,13 @@ use Rattle.machine_parts.specs.View.{view_store}
 use Rattle.machine_parts.specs.declared.StoreBuffer.{StoreBuffer}
 use Rattle.machine_parts.specs.declared.StoreState.TheVariants.{Free}
 use Rattle.machine_parts.proofs.Seen.{seen}
+use Rattle.machine_free.proofs.Tested.{store_test}
 use Rattle.machine_free.proofs.Search.{Looking, looking_none, looking_more, looking_found, looking_end}
 use borrow.Author.Rules.{rules}
 use Rattle.machine_free.proofs.lowest_store.Given as goal
 
 abbrev pub invariant-loop-i : goal.invariant-loop-i
-invariant-loop-i l = Looking (test l.ts) 3 l.i
+invariant-loop-i l = Looking (store_test l.ts) 3 l.i
 
 abbrev pub decreases-loop-i : goal.decreases-loop-i
 decreases-loop-i l = 3 - l.i

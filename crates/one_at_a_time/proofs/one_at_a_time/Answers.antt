@@ -21,7 +21,7 @@ execute-requires c =
     let a = c.args in
     let lists = lent a.words.now a.operands.now a.results.now in
     let long : length a.starts ≡ register_count = search rules in
-    (running_checked c.loop-place.invariant (list_passes binary64 lists c.check_list_against-refused.ensures c.if-refused-ne0.false) c.loop-place-test.true, running_four c.loop-place.invariant long)
+    record { word_value = running_checked c.loop-place.invariant (list_passes binary64 lists c.check_list_against-refused.ensures c.if-refused-ne0.false) c.loop-place-test.true; registers_len = running_four c.loop-place.invariant long }
 
 pub overflow_step-place : goal.overflow_step-place
 overflow_step-place c = omega arith

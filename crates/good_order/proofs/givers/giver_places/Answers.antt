@@ -18,4 +18,4 @@ returns c =
       c.station_place-s10.ensures,
       c.station_place-s11.ensures,
       c.station_place-s12.ensures,
-    ) (table-laid a.t1 a.t2)
+    ) (table-laid a.buffers a.stations)

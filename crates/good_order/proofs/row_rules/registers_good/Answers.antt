@@ -1,3 +1,5 @@
+use mathlib.Core.Bool.{not}
+use mathlib.Core.Path.{ap}
 use Prim.Native.Nat.{◌-◌}
 use native.Mathlib.Omega.{arith}
 use lib.Ieee.{nan}
@@ -21,7 +23,7 @@ bounds-registers-i c = omega arith
 
 pub returns-then-not-register_good : goal.returns-then-not-register_good
 returns-then-not-register_good c =
-    passed_stop (record { operand = Number nan }) (search rules) c.loop-i.invariant c.loop-i-test.true c.register_good.ensures c.if-not-register_good.true
+    passed_stop (record { operand = Number nan }) (search rules) c.loop-i.invariant c.loop-i-test.true c.register_good.ensures (ap not c.if-not-register_good.true)
 
 pub overflow_step-i : goal.overflow_step-i
 overflow_step-i c = omega arith
@@ -31,7 +33,7 @@ loop-i-smaller c = omega arith
 
 pub loop-i-preserved : goal.loop-i-preserved
 loop-i-preserved c =
-    passed_more (record { operand = Number nan }) (search rules) c.loop-i.invariant c.loop-i-test.true c.register_good.ensures c.if-not-register_good.false
+    passed_more (record { operand = Number nan }) (search rules) c.loop-i.invariant c.loop-i-test.true c.register_good.ensures (ap not c.if-not-register_good.false)
 
 pub returns : goal.returns
 returns c = passed_all c.loop-i.invariant c.loop-i-test.false

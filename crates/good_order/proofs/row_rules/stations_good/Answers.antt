@@ -1,3 +1,5 @@
+use mathlib.Core.Bool.{not}
+use mathlib.Core.Path.{ap}
 use Prim.Native.Nat.{◌-◌}
 use native.Mathlib.Omega.{arith}
 use borrow.Author.Rules.{rules}
@@ -19,7 +21,7 @@ bounds-stations-i c = omega arith
 
 pub returns-then-not-station_good : goal.returns-then-not-station_good
 returns-then-not-station_good c =
-    passed_stop (record { state = station.Free }) (search rules) c.loop-i.invariant c.loop-i-test.true c.station_good.ensures c.if-not-station_good.true
+    passed_stop (record { state = station.Free }) (search rules) c.loop-i.invariant c.loop-i-test.true c.station_good.ensures (ap not c.if-not-station_good.true)
 
 pub overflow_step-i : goal.overflow_step-i
 overflow_step-i c = omega arith
@@ -29,7 +31,7 @@ loop-i-smaller c = omega arith
 
 pub loop-i-preserved : goal.loop-i-preserved
 loop-i-preserved c =
-    passed_more (record { state = station.Free }) (search rules) c.loop-i.invariant c.loop-i-test.true c.station_good.ensures c.if-not-station_good.false
+    passed_more (record { state = station.Free }) (search rules) c.loop-i.invariant c.loop-i-test.true c.station_good.ensures (ap not c.if-not-station_good.false)
 
 pub returns : goal.returns
 returns c = passed_all c.loop-i.invariant c.loop-i-test.false
