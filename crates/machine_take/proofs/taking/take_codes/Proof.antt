@@ -23,89 +23,79 @@ use Rattle.machine_take.proofs.taking.take_codes.Proof.Arms as arms
 use Rattle.machine_take.proofs.taking.take_codes.Proof.Bounds as bounds
 use Rattle.machine_take.proofs.taking.take_codes.Proof.Turn.{Inv-loop2, μ-loop2, Inv-loop3, μ-loop3, Inv-loop4, μ-loop4, Inv-loop, μ-loop, known, read}
 
-loop-holds : tie.Need-loop-init Inv-loop2 μ-loop2 Inv-loop3 μ-loop3 Inv-loop4 μ-loop4 Inv-loop μ-loop
+loop-holds : tie.Need-loop-place-init Inv-loop2 μ-loop2 Inv-loop3 μ-loop3 Inv-loop4 μ-loop4 Inv-loop μ-loop
 loop-holds c =
-    let m = c.before.before.before.args.m in
-    let rows = c.before.before.before.well_formed.0.1.1.1 in (
+    let m = c.args.m in
+    let rows = c.well_formed.0.1.1.1 in (
       begins _ _ _ (view m) _
-          (whole m (simp length-map at rows.0.1.0.1) (simp length-map at rows.1.0.1.0.1) (simp length-map at rows.1.1.0.1.0.1) (simp length-map at rows.1.1.1.0.1.0.1)),
+          (whole m (search rules) (search rules) (search rules) (search rules)),
       refl,
       refl,
     )
 
-loop2-holds : tie.Need-loop2-init Inv-loop2 μ-loop2 Inv-loop3 μ-loop3 Inv-loop4 μ-loop4 Inv-loop μ-loop
+loop2-holds : tie.Need-loop-i-init Inv-loop2 μ-loop2 Inv-loop3 μ-loop3 Inv-loop4 μ-loop4 Inv-loop μ-loop
 loop2-holds c = (search rules, giving_none)
 
-loop2-again : tie.Need-loop2-preserved Inv-loop2 μ-loop2 Inv-loop3 μ-loop3 Inv-loop4 μ-loop4 Inv-loop μ-loop
-loop2-again c = (omega arith, register_kept (record { operand = Number nan }) c.before.before.before.before.loop2.invariant.1 (sym c.before.register-waits.ensures ∙ not-true _ c.if2.true))
+loop2-again : tie.Need-loop-i-preserved-then-not-register_waits Inv-loop2 μ-loop2 Inv-loop3 μ-loop3 Inv-loop4 μ-loop4 Inv-loop μ-loop
+loop2-again c = (omega arith, register_kept (record { operand = Number nan }) c.loop-i.invariant.1 (sym c.register_waits.ensures ∙ c.if-not-register_waits.true))
 
-loop2-again-2 : tie.Need-loop2-preserved-2 Inv-loop2 μ-loop2 Inv-loop3 μ-loop3 Inv-loop4 μ-loop4 Inv-loop μ-loop
-loop2-again-2 c = (omega arith, register-given (record { operand = Number nan }) c.before.before.before.before.before.loop2.invariant.1 c.given-register.result c.given-register.ensures)
+loop2-again-2 : tie.Need-loop-i-preserved Inv-loop2 μ-loop2 Inv-loop3 μ-loop3 Inv-loop4 μ-loop4 Inv-loop μ-loop
+loop2-again-2 c = (omega arith, register-given (record { operand = Number nan }) c.loop-i.invariant.1 c.given_register.result c.given_register.ensures)
 
-loop3-holds : tie.Need-loop3-init Inv-loop2 μ-loop2 Inv-loop3 μ-loop3 Inv-loop4 μ-loop4 Inv-loop μ-loop
+loop3-holds : tie.Need-loop-i-2-init Inv-loop2 μ-loop2 Inv-loop3 μ-loop3 Inv-loop4 μ-loop4 Inv-loop μ-loop
 loop3-holds c = (search rules, giving_none)
 
-loop3-again : tie.Need-loop3-preserved Inv-loop2 μ-loop2 Inv-loop3 μ-loop3 Inv-loop4 μ-loop4 Inv-loop μ-loop
-loop3-again c = (omega arith, station_kept (record { state = station.Free }) c.before.before.before.before.loop3.invariant.1 (sym c.before.station-waits.ensures ∙ not-true _ c.if3.true))
+loop3-again : tie.Need-loop-i-2-preserved-then-not-station_waits Inv-loop2 μ-loop2 Inv-loop3 μ-loop3 Inv-loop4 μ-loop4 Inv-loop μ-loop
+loop3-again c = (omega arith, station_kept (record { state = station.Free }) c.loop-i-2.invariant.1 (sym c.station_waits.ensures ∙ c.if-not-station_waits.true))
 
-loop3-again-2 : tie.Need-loop3-preserved-2 Inv-loop2 μ-loop2 Inv-loop3 μ-loop3 Inv-loop4 μ-loop4 Inv-loop μ-loop
-loop3-again-2 c = (omega arith, station_given (record { state = station.Free }) c.before.before.before.before.before.loop3.invariant.1 c.given-station.result c.given-station.ensures)
+loop3-again-2 : tie.Need-loop-i-2-preserved Inv-loop2 μ-loop2 Inv-loop3 μ-loop3 Inv-loop4 μ-loop4 Inv-loop μ-loop
+loop3-again-2 c = (omega arith, station_given (record { state = station.Free }) c.loop-i-2.invariant.1 c.given_station.result c.given_station.ensures)
 
-loop4-holds : tie.Need-loop4-init Inv-loop2 μ-loop2 Inv-loop3 μ-loop3 Inv-loop4 μ-loop4 Inv-loop μ-loop
+loop4-holds : tie.Need-loop-i-3-init Inv-loop2 μ-loop2 Inv-loop3 μ-loop3 Inv-loop4 μ-loop4 Inv-loop μ-loop
 loop4-holds c = (search rules, giving_none)
 
-loop4-again : tie.Need-loop4-preserved Inv-loop2 μ-loop2 Inv-loop3 μ-loop3 Inv-loop4 μ-loop4 Inv-loop μ-loop
-loop4-again c = (omega arith, store_kept (record { state = store.Free }) c.before.before.before.before.loop4.invariant.1 (sym c.before.store_waits_lem.ensures ∙ not-true _ c.if4.true))
+loop4-again : tie.Need-loop-i-3-preserved-then-not-store_waits Inv-loop2 μ-loop2 Inv-loop3 μ-loop3 Inv-loop4 μ-loop4 Inv-loop μ-loop
+loop4-again c = (omega arith, store_kept (record { state = store.Free }) c.loop-i-3.invariant.1 (sym c.store_waits.ensures ∙ c.if-not-store_waits.true))
 
-loop4-again-2 : tie.Need-loop4-preserved-2 Inv-loop2 μ-loop2 Inv-loop3 μ-loop3 Inv-loop4 μ-loop4 Inv-loop μ-loop
-loop4-again-2 c = (omega arith, store_given (record { state = store.Free }) c.before.before.before.before.before.loop4.invariant.1 c.given-store.result c.given-store.ensures)
+loop4-again-2 : tie.Need-loop-i-3-preserved Inv-loop2 μ-loop2 Inv-loop3 μ-loop3 Inv-loop4 μ-loop4 Inv-loop μ-loop
+loop4-again-2 c = (omega arith, store_given (record { state = store.Free }) c.loop-i-3.invariant.1 c.given_store.result c.given_store.ensures)
 
-returns : tie.Need-returns Inv-loop2 μ-loop2 Inv-loop3 μ-loop3 Inv-loop4 μ-loop4 Inv-loop μ-loop
-returns c = let l = c.before.loop.invariant in rw (l.1, l.2) (at_end _ _ _ _ l.0 c.loop-test.false)
+returns : tie.Need-returns-after-loop-place Inv-loop2 μ-loop2 Inv-loop3 μ-loop3 Inv-loop4 μ-loop4 Inv-loop μ-loop
+returns c = let l = c.loop-place.invariant in rw (l.1, l.2) (at_end _ _ _ _ l.0 c.loop-place-test.false)
 
-returns-2 : tie.Need-returns-2 Inv-loop2 μ-loop2 Inv-loop3 μ-loop3 Inv-loop4 μ-loop4 Inv-loop μ-loop
+returns-2 : tie.Need-returns-in-Refused Inv-loop2 μ-loop2 Inv-loop3 μ-loop3 Inv-loop4 μ-loop4 Inv-loop μ-loop
 returns-2 c =
-    let top = c.before.before.before.before.before in
-    let l = top.loop.invariant in
+    let l = c.loop-place.invariant in
     rw l.2
-    (number_stops _ _ _ _ l.0 c.before.before.before.before.loop-test.true (sym c.before.before.before.number_at.ensures ∙ ap told c.before.number.given.1))
+    (number_stops _ _ _ _ l.0 c.loop-place-test.true (sym c.number_at.ensures ∙ ap told c.in-Refused.is))
 
-returns-3 : tie.Need-returns-3 Inv-loop2 μ-loop2 Inv-loop3 μ-loop3 Inv-loop4 μ-loop4 Inv-loop μ-loop
+returns-3 : tie.Need-returns-in-Refused-change Inv-loop2 μ-loop2 Inv-loop3 μ-loop3 Inv-loop4 μ-loop4 Inv-loop μ-loop
 returns-3 c =
-    let turn = c.before.before.before in
-    let coded = turn.before.before in
-    let top = coded.before.before.before.before.before in
-    let is = c.before.change.given.1 in
-    let l = top.loop.invariant in
+    let is = c.in-Refused-change.is in
+    let l = c.loop-place.invariant in
     rw l.2
-    (step_stops _ _ _ _ l.0 coded.before.before.before.before.loop-test.true (read coded) (is_within (known turn) is) (is_change (known turn) is))
+    (step_stops _ _ _ _ l.0 c.loop-place-test.true (read c.before.before.before) (is_within (known c.before) is) (is_change (known c.before) is))
 
-returns-4 : tie.Need-returns-4 Inv-loop2 μ-loop2 Inv-loop3 μ-loop3 Inv-loop4 μ-loop4 Inv-loop μ-loop
+returns-4 : tie.Need-returns-then-not-room Inv-loop2 μ-loop2 Inv-loop3 μ-loop3 Inv-loop4 μ-loop4 Inv-loop μ-loop
 returns-4 c =
-    let turn = c.before.before.before.before in
-    let coded = turn.before.before in
-    let top = coded.before.before.before.before.before in
-    let is = c.before.before.change10.given.1 in
-    let l = top.loop.invariant in
+    let is = c.in-Releases.is in
+    let l = c.loop-place.invariant in
     rw l.2
-    (full_stops _ _ _ _ l.0 coded.before.before.before.before.loop-test.true (read coded) (is_change (known turn) is) (not-true _ c.if5.true))
+    (full_stops _ _ _ _ l.0 c.loop-place-test.true (read c.before.before.before.before) (is_change (known c.before.before) is) (c.if-not-room.true))
 
-returns-5 : tie.Need-returns-5 Inv-loop2 μ-loop2 Inv-loop3 μ-loop3 Inv-loop4 μ-loop4 Inv-loop μ-loop
+returns-5 : tie.Need-returns-else-not-room Inv-loop2 μ-loop2 Inv-loop3 μ-loop3 Inv-loop4 μ-loop4 Inv-loop μ-loop
 returns-5 c =
-    let turn = c.before.before.before.before.before in
-    let coded = turn.before.before in
-    let top = coded.before.before.before.before.before in
-    let is = c.before.before.before.change10.given.1 in
-    let l = top.loop.invariant in
+    let is = c.in-Releases.is in
+    let l = c.loop-place.invariant in
     rw l.1
     (release_stops _ _ _ _ l.0
-    coded.before.before.before.before.loop-test.true
-    (read coded)
-    (releases (known turn) is c.free_store_lem.result c.free_store_lem.ensures)
-    (not-false _ c.before.if5.false))
+    c.loop-place-test.true
+    (read c.before.before.before.before.before)
+    (releases (known c.before.before.before) is c.free_store.result c.free_store.ensures)
+    (c.if-not-room.false))
 
-pub take-codes-spec : {M : Type 1} → statement M
-take-codes-spec =
+pub take_codes_spec : {M : Type 1} → statement M
+take_codes_spec =
     tie.close
     (tie.spec
     Inv-loop2

@@ -8,98 +8,81 @@ use Rattle.machine_take.proofs.taking.take_codes.Tie as tie
 use Rattle.machine_take.proofs.taking.take_codes.Proof.Turn.{Inv-loop2, μ-loop2, Inv-loop3, μ-loop3, Inv-loop4, μ-loop4, Inv-loop, μ-loop, known, onward, four, on, granted-on}
 
 -- in each: `turn` is where the change has been found out, `arm` is where its own names are known, and `is` says which change it is
-pub loop-less : tie.Need-loop-smaller Inv-loop2 μ-loop2 Inv-loop3 μ-loop3 Inv-loop4 μ-loop4 Inv-loop μ-loop
-loop-less c = omega (arith, onward c.before.before.before.before.before.before.before.before)
+pub loop-less : tie.Need-loop-place-smaller-in-Loads Inv-loop2 μ-loop2 Inv-loop3 μ-loop3 Inv-loop4 μ-loop4 Inv-loop μ-loop
+loop-less c = omega (arith, onward c.before.before.before.before.before.before)
 
-pub loop-again : tie.Need-loop-preserved Inv-loop2 μ-loop2 Inv-loop3 μ-loop3 Inv-loop4 μ-loop4 Inv-loop μ-loop
+pub loop-again : tie.Need-loop-place-preserved-in-Loads Inv-loop2 μ-loop2 Inv-loop3 μ-loop3 Inv-loop4 μ-loop4 Inv-loop μ-loop
 loop-again c =
-    let arm = c.before.before.before.before in
-    let turn = arm.before.before in
-    let is = arm.change2.given.1 in
-    on turn
-    (loads (known turn) is
-    c.before.waiting-register.result
-    (c.before.waiting-register.ensures ∙ ap tag (buffer_tagged (is_within (known turn) is).1 c.before.before.of-buffer.ensures))
+    let is = c.in-Loads.is in
+    on c.before.before.before.before
+    (loads (known c.before.before.before.before) is
+    c.waiting_register.result
+    (c.waiting_register.ensures ∙ ap tag (buffer_tagged (is_within (known c.before.before.before.before) is).1 c.of_buffer.ensures))
     c.fetching.result
     c.fetching.ensures)
 
-pub loop-less-2 : tie.Need-loop-smaller-2 Inv-loop2 μ-loop2 Inv-loop3 μ-loop3 Inv-loop4 μ-loop4 Inv-loop μ-loop
-loop-less-2 c = omega (arith, onward c.before.before.before.before.before.before.before.before.before.before.before.before)
+pub loop-less-2 : tie.Need-loop-place-smaller-in-TakesCell Inv-loop2 μ-loop2 Inv-loop3 μ-loop3 Inv-loop4 μ-loop4 Inv-loop μ-loop
+loop-less-2 c = omega (arith, onward c.before.before.before.before.before.before.before.before.before.before)
 
-pub loop-again-2 : tie.Need-loop-preserved-2 Inv-loop2 μ-loop2 Inv-loop3 μ-loop3 Inv-loop4 μ-loop4 Inv-loop μ-loop
+pub loop-again-2 : tie.Need-loop-place-preserved-in-TakesCell Inv-loop2 μ-loop2 Inv-loop3 μ-loop3 Inv-loop4 μ-loop4 Inv-loop μ-loop
 loop-again-2 c =
-    let held = c.before.before.before in
-    let cell = held.before in
-    let arm = c.before.before.before.before.before.before.before.before in
-    let turn = arm.before.before in
-    let is = arm.change3.given.1 in
-    on turn
-    (takes_cell (known turn) is (four turn) (is_within (known turn) is).0
-    held.holding.result
-    cell.waiting-register2.result
-    held.holding.ensures
-    (cell.waiting-register2.ensures ∙ ap tag (buffer_tagged (is_within (known turn) is).1 cell.before.of-buffer2.ensures))
-    c.before.waiting-register3.result
-    (c.before.waiting-register3.ensures ∙ ap tag (station_tagged (is_within (known turn) is).2 c.before.before.of-station.ensures))
-    c.fetching2.result
-    c.fetching2.ensures)
+    let is = c.in-TakesCell.is in
+    on c.before.before.before.before.before.before.before.before
+    (takes_cell (known c.before.before.before.before.before.before.before.before) is (four c.before.before.before.before.before.before.before.before) (is_within (known c.before.before.before.before.before.before.before.before) is).0
+    c.holding.result
+    c.waiting_register-in-TakesCell.result
+    c.holding.ensures
+    (c.waiting_register-in-TakesCell.ensures ∙ ap tag (buffer_tagged (is_within (known c.before.before.before.before.before.before.before.before) is).1 c.of_buffer-in-TakesCell.ensures))
+    c.waiting_register-in-TakesCell-2.result
+    (c.waiting_register-in-TakesCell-2.ensures ∙ ap tag (station_tagged (is_within (known c.before.before.before.before.before.before.before.before) is).2 c.of_station.ensures))
+    c.fetching-in-TakesCell.result
+    c.fetching-in-TakesCell.ensures)
 
-pub loop-less-3 : tie.Need-loop-smaller-3 Inv-loop2 μ-loop2 Inv-loop3 μ-loop3 Inv-loop4 μ-loop4 Inv-loop μ-loop
-loop-less-3 c = omega (arith, onward c.before.before.before.before.before.before)
+pub loop-less-3 : tie.Need-loop-place-smaller-in-Copies Inv-loop2 μ-loop2 Inv-loop3 μ-loop3 Inv-loop4 μ-loop4 Inv-loop μ-loop
+loop-less-3 c = omega (arith, onward c.before.before.before.before)
 
-pub loop-again-3 : tie.Need-loop-preserved-3 Inv-loop2 μ-loop2 Inv-loop3 μ-loop3 Inv-loop4 μ-loop4 Inv-loop μ-loop
+pub loop-again-3 : tie.Need-loop-place-preserved-in-Copies Inv-loop2 μ-loop2 Inv-loop3 μ-loop3 Inv-loop4 μ-loop4 Inv-loop μ-loop
 loop-again-3 c =
-    let arm = c.before.before in
-    let turn = arm.before.before in
-    let is = arm.change4.given.1 in
-    on turn (copies (known turn) is (four turn) (is_within (known turn) is).1)
+    let is = c.in-Copies.is in
+    on c.before.before (copies (known c.before.before) is (four c.before.before) (is_within (known c.before.before) is).1)
 
-pub loop-less-4 : tie.Need-loop-smaller-4 Inv-loop2 μ-loop2 Inv-loop3 μ-loop3 Inv-loop4 μ-loop4 Inv-loop μ-loop
-loop-less-4 c = omega (arith, onward c.before.before.before.before.before.before.before.before.before.before)
+pub loop-less-4 : tie.Need-loop-place-smaller-in-TakesRegister Inv-loop2 μ-loop2 Inv-loop3 μ-loop3 Inv-loop4 μ-loop4 Inv-loop μ-loop
+loop-less-4 c = omega (arith, onward c.before.before.before.before.before.before.before.before)
 
-pub loop-again-4 : tie.Need-loop-preserved-4 Inv-loop2 μ-loop2 Inv-loop3 μ-loop3 Inv-loop4 μ-loop4 Inv-loop μ-loop
+pub loop-again-4 : tie.Need-loop-place-preserved-in-TakesRegister Inv-loop2 μ-loop2 Inv-loop3 μ-loop3 Inv-loop4 μ-loop4 Inv-loop μ-loop
 loop-again-4 c =
-    let waits = c.before in
-    let arm = c.before.before.before.before.before.before in
-    let turn = arm.before.before in
-    let is = arm.change5.given.1 in
-    on turn
-    (takes_register_lem (known turn) is (four turn) (is_within (known turn) is).0 (is_within (known turn) is).1
-    c.holding2.result
-    c.holding2.ensures
-    waits.waiting-register4.result
-    (waits.waiting-register4.ensures ∙ ap tag (station_tagged (is_within (known turn) is).2 waits.before.of-station2.ensures)))
+    let is = c.in-TakesRegister.is in
+    on c.before.before.before.before.before.before
+    (takes_register_lem (known c.before.before.before.before.before.before) is (four c.before.before.before.before.before.before) (is_within (known c.before.before.before.before.before.before) is).0 (is_within (known c.before.before.before.before.before.before) is).1
+    c.holding-in-TakesRegister.result
+    c.holding-in-TakesRegister.ensures
+    c.waiting_register-waits.result
+    (c.waiting_register-waits.ensures ∙ ap tag (station_tagged (is_within (known c.before.before.before.before.before.before) is).2 c.of_station-in-TakesRegister.ensures)))
 
-pub loop-less-5 : tie.Need-loop-smaller-5 Inv-loop2 μ-loop2 Inv-loop3 μ-loop3 Inv-loop4 μ-loop4 Inv-loop μ-loop
-loop-less-5 c = omega (arith, onward c.before.before.before.before.before.before.before)
+pub loop-less-5 : tie.Need-loop-place-smaller-in-Stores Inv-loop2 μ-loop2 Inv-loop3 μ-loop3 Inv-loop4 μ-loop4 Inv-loop μ-loop
+loop-less-5 c = omega (arith, onward c.before.before.before.before.before)
 
-pub loop-again-5 : tie.Need-loop-preserved-5 Inv-loop2 μ-loop2 Inv-loop3 μ-loop3 Inv-loop4 μ-loop4 Inv-loop μ-loop
+pub loop-again-5 : tie.Need-loop-place-preserved-in-Stores Inv-loop2 μ-loop2 Inv-loop3 μ-loop3 Inv-loop4 μ-loop4 Inv-loop μ-loop
 loop-again-5 c =
-    let arm = c.before.before.before in
-    let turn = arm.before.before in
-    let is = arm.change6.given.1 in
-    on turn (stores (known turn) is (four turn) (is_within (known turn) is).0 c.pending.result c.pending.ensures)
+    let is = c.in-Stores.is in
+    on c.before.before.before (stores (known c.before.before.before) is (four c.before.before.before) (is_within (known c.before.before.before) is).0 c.pending.result c.pending.ensures)
 
-pub loop-less-6 : tie.Need-loop-smaller-6 Inv-loop2 μ-loop2 Inv-loop3 μ-loop3 Inv-loop4 μ-loop4 Inv-loop μ-loop
-loop-less-6 c = omega (arith, onward c.before.before.before.before.before.before)
+pub loop-less-6 : tie.Need-loop-place-smaller-in-Arrives Inv-loop2 μ-loop2 Inv-loop3 μ-loop3 Inv-loop4 μ-loop4 Inv-loop μ-loop
+loop-less-6 c = omega (arith, onward c.before.before.before.before)
 
-pub loop-again-6 : tie.Need-loop-preserved-6 Inv-loop2 μ-loop2 Inv-loop3 μ-loop3 Inv-loop4 μ-loop4 Inv-loop μ-loop
+pub loop-again-6 : tie.Need-loop-place-preserved-in-Arrives Inv-loop2 μ-loop2 Inv-loop3 μ-loop3 Inv-loop4 μ-loop4 Inv-loop μ-loop
 loop-again-6 c =
-    let arm = c.before.before in
-    let turn = arm.before.before in
-    on turn (arrives (known turn) arm.change7.given.1 c.full.result c.full.ensures)
+    on c.before.before (arrives (known c.before.before) c.in-Arrives.is c.full.result c.full.ensures)
 
-pub loop-less-7 : tie.Need-loop-smaller-7 Inv-loop2 μ-loop2 Inv-loop3 μ-loop3 Inv-loop4 μ-loop4 Inv-loop μ-loop
-loop-less-7 c = omega (arith, onward c.before.before.before.before.before.before)
+pub loop-less-7 : tie.Need-loop-place-smaller-in-Completes Inv-loop2 μ-loop2 Inv-loop3 μ-loop3 Inv-loop4 μ-loop4 Inv-loop μ-loop
+loop-less-7 c = omega (arith, onward c.before.before.before.before)
 
-pub loop-again-7 : tie.Need-loop-preserved-7 Inv-loop2 μ-loop2 Inv-loop3 μ-loop3 Inv-loop4 μ-loop4 Inv-loop μ-loop
+pub loop-again-7 : tie.Need-loop-place-preserved-in-Completes Inv-loop2 μ-loop2 Inv-loop3 μ-loop3 Inv-loop4 μ-loop4 Inv-loop μ-loop
 loop-again-7 c =
-    let arm = c.before.before in
-    let turn = arm.before.before in
-    on turn (completes (known turn) arm.change8.given.1 c.done.result c.done.ensures)
+    on c.before.before (completes (known c.before.before) c.in-Completes.is c.done.result c.done.ensures)
 
-pub loop-less-8 : tie.Need-loop-smaller-8 Inv-loop2 μ-loop2 Inv-loop3 μ-loop3 Inv-loop4 μ-loop4 Inv-loop μ-loop
-loop-less-8 c = omega (arith, onward c.before.before.before.before.before.before.before.before.before.before.before.before)
+pub loop-less-8 : tie.Need-loop-place-smaller Inv-loop2 μ-loop2 Inv-loop3 μ-loop3 Inv-loop4 μ-loop4 Inv-loop μ-loop
+loop-less-8 c = omega (arith, onward c.before.before.before.before.before.before.before.before.before.before)
 
-pub loop-again-8 : tie.Need-loop-preserved-8 Inv-loop2 μ-loop2 Inv-loop3 μ-loop3 Inv-loop4 μ-loop4 Inv-loop μ-loop
-loop-again-8 c = on c.before.before.before.before.before.before.before.before.before.before (granted-on c)
+pub loop-again-8 : tie.Need-loop-place-preserved Inv-loop2 μ-loop2 Inv-loop3 μ-loop3 Inv-loop4 μ-loop4 Inv-loop μ-loop
+loop-again-8 c = on c.before.before.before.before.before.before.before.before (granted-on c)

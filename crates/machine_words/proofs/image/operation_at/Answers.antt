@@ -1,0 +1,15 @@
+use borrow.Author.Rules.{rules}
+use Rattle.machine_words.proofs.Tests.{test_taken, test_left}
+use Rattle.machine_words.proofs.image.operation_at.Goals as goal
+
+pub returns-then-word-eq0 : goal.returns-then-word-eq0
+returns-then-word-eq0 c = rw (test_taken c.word_or_zero-word.ensures c.if-word-eq0.true)
+
+pub returns-then-word-eq1 : goal.returns-then-word-eq1
+returns-then-word-eq1 c = let w = c in rw (test_left w.word_or_zero-word.ensures c.if-word-eq0.false, test_taken w.word-or-zero.ensures c.if-word-eq1.true)
+
+pub returns-then-word-eq2 : goal.returns-then-word-eq2
+returns-then-word-eq2 c = let w = c in rw (test_left w.word_or_zero-word.ensures c.if-word-eq0.false, test_left w.word-or-zero.ensures c.if-word-eq1.false, test_taken w.word-or-zero.ensures c.if-word-eq2.true)
+
+pub returns : goal.returns
+returns c = let w = c in rw (test_left w.word_or_zero-word.ensures c.if-word-eq0.false, test_left w.word-or-zero.ensures c.if-word-eq1.false, test_left w.word-or-zero.ensures c.if-word-eq2.false)

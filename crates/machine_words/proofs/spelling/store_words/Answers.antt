@@ -1,0 +1,9 @@
+use Rattle.machine_parts.specs.View.{view_operand}
+use Rattle.machine_words.proofs.Words.{two-words}
+use borrow.Author.Rules.{rules}
+use Rattle.machine_words.proofs.spelling.store_words.Goals as goal
+
+pub returns-in-Live : goal.returns-in-Live
+returns-in-Live c =
+    let s = c.state-1.given in
+    rw (s.1, c.operand_words-x.ensures, two-words (view_operand s.0.0.operand))

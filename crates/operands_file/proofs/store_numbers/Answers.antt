@@ -1,0 +1,17 @@
+use mathlib.Core.Path.{sym}
+use Prim.Native.Nat.{◌-◌, ◌/◌}
+use lib.ListN.{length}
+use borrow.Author.Rules.{rules}
+use Rattle.operands_file.proofs.Joining.{Laying, laying_none, laying_more, laying_all, length-numbers}
+use Rattle.operands_file.proofs.store_numbers.Goals as goal
+
+pub loop-i-init : goal.loop-i-init
+loop-i-init c = laying_none _ _ _
+
+pub loop-i-preserved : goal.loop-i-preserved
+loop-i-preserved c = rw (c.number_of.ensures, c.pattern_at.ensures) (laying_more c.loop-i.invariant c.loop-i-test.true)
+
+pub returns : goal.returns
+returns c =
+    let bytes = c.args.bytes.now in
+    (sym (length-numbers (length bytes / 8) bytes 0), laying_all c.loop-i.invariant c.loop-i-test.false)

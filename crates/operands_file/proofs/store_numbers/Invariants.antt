@@ -1,0 +1,12 @@
+use mathlib.Core.Path.{sym}
+use Prim.Native.Nat.{◌-◌, ◌/◌}
+use lib.ListN.{length}
+use borrow.Author.Rules.{rules}
+use Rattle.operands_file.proofs.Joining.{Laying, laying_none, laying_more, laying_all, length-numbers}
+use Rattle.operands_file.proofs.store_numbers.Given as goal
+
+abbrev pub invariant-loop-i : goal.invariant-loop-i
+invariant-loop-i l = Laying l.bytes l.initial.cells l.count l.cells l.i
+
+abbrev pub decreases-loop-i : goal.decreases-loop-i
+decreases-loop-i l = l.count - l.i
