@@ -5,3 +5,4 @@ pub mod First
 pub mod Moving
 pub mod Segments
 pub mod Stepping
+pub mod Permits

@@ -6,10 +6,10 @@ pub returns-then-word-eq0 : goal.returns-then-word-eq0
 returns-then-word-eq0 c = rw (test_taken c.word_or_zero-word.ensures c.if-word-eq0.true)
 
 pub returns-then-word-eq1 : goal.returns-then-word-eq1
-returns-then-word-eq1 c = let w = c in rw (test_left w.word_or_zero-word.ensures c.if-word-eq0.false, test_taken w.word-or-zero.ensures c.if-word-eq1.true)
+returns-then-word-eq1 c = rw (test_left c.word_or_zero-word.ensures c.if-word-eq0.false, test_taken c.word_or_zero-word.ensures c.if-word-eq1.true)
 
 pub returns-then-word-eq2 : goal.returns-then-word-eq2
-returns-then-word-eq2 c = let w = c in rw (test_left w.word_or_zero-word.ensures c.if-word-eq0.false, test_left w.word-or-zero.ensures c.if-word-eq1.false, test_taken w.word-or-zero.ensures c.if-word-eq2.true)
+returns-then-word-eq2 c = rw (test_left c.word_or_zero-word.ensures c.if-word-eq0.false, test_left c.word_or_zero-word.ensures c.if-word-eq1.false, test_taken c.word_or_zero-word.ensures c.if-word-eq2.true)
 
 pub returns : goal.returns
-returns c = let w = c in rw (test_left w.word_or_zero-word.ensures c.if-word-eq0.false, test_left w.word-or-zero.ensures c.if-word-eq1.false, test_left w.word-or-zero.ensures c.if-word-eq2.false)
+returns c = rw (test_left c.word_or_zero-word.ensures c.if-word-eq0.false, test_left c.word_or_zero-word.ensures c.if-word-eq1.false, test_left c.word_or_zero-word.ensures c.if-word-eq2.false)

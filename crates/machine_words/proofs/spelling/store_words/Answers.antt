@@ -5,5 +5,4 @@ use Rattle.machine_words.proofs.spelling.store_words.Goals as goal
 
 pub returns-in-Live : goal.returns-in-Live
 returns-in-Live c =
-    let s = c.state-1.given in
-    rw (s.1, c.operand_words-x.ensures, two-words (view_operand s.0.0.operand))
+    rw (c.in-Live.is, c.operand_words-x.ensures, two-words (view_operand c.in-Live.pending.operand))

@@ -1,0 +1,6 @@
+use Rattle.machine_steps.proofs.Advancing.{begins_so}
+use borrow.Author.Rules.{rules}
+use Rattle.machine_steps.proofs.advance.begun.Goals as goal
+
+pub returns : goal.returns
+returns c = let a = c.args in begins_so a.m a.words.now a.operands.now a.results c.entry_refusal-refused.ensures

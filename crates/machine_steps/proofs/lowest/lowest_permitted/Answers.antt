@@ -1,0 +1,45 @@
+use mathlib.Core.Path.{◌≡◌, refl, sym, ap, ◌∙◌}
+use mathlib.Core.Bool.{Bool, true}
+use mathlib.Core.List.{List, [], ◌∷◌}
+use Prim.Native.Nat.{ℕ, ◌-◌, ◌<◌}
+use native.Mathlib.Omega.{arith}
+use borrow.Author.Rules.{rules}
+use borrow.Author.Tests.{eq-eqb, ne_eqb}
+use lib.Dec.{eqb}
+use lib.Ieee.{Float}
+use Rattle.theory_machine.specs.Rows.{first}
+use Rattle.theory_machine.specs.Codes.{code_limit}
+use Rattle.theory_machine.specs.Issue.{is_taken}
+use Rattle.theory_machine.specs.Binary64.{binary64}
+use Rattle.theory_machine.specs.Steps.{perform}
+use Rattle.theory_machine.specs.Entries.{lowest_permitted}
+use Rattle.machine_parts.specs.declared.Machine.{Machine}
+use Rattle.machine_parts.specs.View.{view, lent_with}
+use Rattle.machine_take.specs.Taking.{Taken, view_taken, take_from}
+use Rattle.machine_take.specs.declared.taking.Taken as declared
+use Rattle.machine_steps.proofs.Stepping.{one_step}
+use Rattle.machine_steps.proofs.Permits.{permits, lowest_is, permitted}
+use Rattle.machine_steps.proofs.First.{Searching, searching_none, searching_more, searching_found, searching_all}
+use Rattle.machine_steps.proofs.lowest.lowest_permitted.Goals as goal
+
+pub loop-code-init : goal.loop-code-init
+loop-code-init c = searching_none _ code_limit
+
+pub returns-then-taken-eq0 : goal.returns-then-taken-eq0
+returns-then-taken-eq0 c =
+    let a = c.args in
+    sym
+    (lowest_is a.m a.words.now a.operands.now a.results
+    ∙ searching_found _ c.loop-code.invariant c.loop-code-test.true
+    (sym (permitted c.take_codes-taken.result a.m a.words.now a.operands.now a.results c.loop-code.code (omega (arith, c.loop-code-test.true)) c.take_codes-taken.ensures) ∙ eq-eqb _ 0 c.if-taken-eq0.true))
+
+pub loop-code-preserved : goal.loop-code-preserved
+loop-code-preserved c =
+    let a = c.args in
+    searching_more _ c.loop-code.invariant c.loop-code-test.true
+    (sym (permitted c.take_codes-taken.result a.m a.words.now a.operands.now a.results c.loop-code.code (omega (arith, c.loop-code-test.true)) c.take_codes-taken.ensures) ∙ ne_eqb _ 0 c.if-taken-eq0.false)
+
+pub returns : goal.returns
+returns c =
+    let a = c.args in
+    sym (lowest_is a.m a.words.now a.operands.now a.results ∙ searching_all _ c.loop-code.invariant c.loop-code-test.false)
