@@ -1,8 +1,5 @@
-pub mod Again
 pub mod Answers
 pub mod Determined
-pub mod Kit
-pub mod Sizes
 pub mod Onward
 pub mod ByReleasesLaws
-pub mod Shaped
+pub mod Going
