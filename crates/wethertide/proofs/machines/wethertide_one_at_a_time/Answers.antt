@@ -1,0 +1,24 @@
+use borrow.Author.Rules.{rules}
+use borrow.Author.Tests.{le-leb, lt-leb}
+use mathlib.Core.Path.{refl, ap, ◌∙◌}
+use mathlib.Core.List.{List}
+use lib.Ieee.{Float, nan}
+use lib.Seq.{sets}
+use Rattle.theory_machine.specs.Entries.{OneAtATime}
+use Rattle.machine_parts.proofs.Four.{four}
+use Rattle.wethertide.proofs.Entries.{carried}
+use Rattle.wethertide.proofs.Room.{is-short, is-roomy}
+use Rattle.wethertide.proofs.machines.wethertide_one_at_a_time.Goals as goal
+
+pub returns-then-registers-lt-COUNT : goal.returns-then-registers-lt-COUNT
+returns-then-registers-lt-COUNT c = is-short (lt-leb _ _ c.if-registers-lt-COUNT.true) (refl, refl, refl)
+
+pub returns : goal.returns
+returns c =
+    let e = rw c.starts_in-starts.ensures at c.one_at_a_time-ran.ensures in
+    is-roomy (le-leb _ _ c.if-registers-lt-COUNT.false) (
+      ap (λ (x : OneAtATime Float). x.refusal) e,
+      ap (λ (x : OneAtATime Float). x.run.cells) e,
+      rw (c.put_number-4.ensures, c.put_number-3.ensures, c.put_number-2.ensures, c.put_number.ensures)
+          (carried (λ (x : OneAtATime Float) row. sets row 0 x.run.registers) (ap (sets _ 0) (four nan c.one_at_a_time-ran.result.registers (search (rules, c.one_at_a_time-ran.type_inv)))) e),
+    )

@@ -1,0 +1,22 @@
+use borrow.Author.Rules.{rules}
+use borrow.Author.Tests.{le-leb, lt-leb}
+use mathlib.Core.Path.{refl, ap, ◌∙◌}
+use mathlib.Core.List.{List, [], ◌∷◌}
+use Prim.Native.Nat.{ℕ}
+use lib.Seq.{sets}
+use Rattle.theory_machine.specs.Entries.{StepsLeft}
+use Rattle.wethertide.proofs.Entries.{carried}
+use Rattle.wethertide.proofs.Room.{not_first, both_tests, is-short, is-roomy}
+use Rattle.wethertide.proofs.machines.wethertide_steps_left.Goals as goal
+
+pub returns-then-machine-lt-WORDS : goal.returns-then-machine-lt-WORDS
+returns-then-machine-lt-WORDS c = is-short (not_first _ (lt-leb _ _ c.if-machine-lt-WORDS.true)) (refl, refl)
+
+pub returns-then-answer-lt-LEFT : goal.returns-then-answer-lt-LEFT
+returns-then-answer-lt-LEFT c = is-short (both_tests (le-leb _ _ c.if-machine-lt-WORDS.false) (lt-leb _ _ c.if-answer-lt-LEFT.true)) (refl, refl)
+
+pub returns : goal.returns
+returns c =
+    let e = rw c.machine_in-m.ensures at c.steps_left-left.ensures in
+    is-roomy (both_tests (le-leb _ _ c.if-machine-lt-WORDS.false) (le-leb _ _ c.if-answer-lt-LEFT.false))
+    (ap (λ (x : StepsLeft). x.refusal) e, carried (λ (x : StepsLeft) row. sets row 0 (x.left ∷ [])) {row = c.args.answer.now} c.put_words.ensures e)
