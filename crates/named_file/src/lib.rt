@@ -3,6 +3,13 @@
 
 ghost use Rattle.std.specs.Prelude.{◌≤◌, length};
 
+use std::io::{Error, ErrorKind, Read};
+use std::rt::{Env, Files};
+use std::{fs, str};
+
+// A name that the system opens has fewer bytes.
+const NAME_ROOM: usize = 4096;
+
 // What was read of a file: whether it was named, opened and read to its end or to the buffer's, and how many bytes.
 #[derive(Clone, Copy)]
 pub struct FileRead {
@@ -19,38 +26,45 @@ fn missing() -> FileRead
     }
 }
 
-// Whether a read fails, as of a folder: the end of a file is no failure.
-fn fails(fd: i32) -> bool {
-    let mut byte = [0u8; 1];
-    libc::read(fd, &mut byte) < 0
+// Whether a read fails, as of a folder: one that a signal cut off is tried again.
+fn fails(error: Error) -> bool {
+    error.kind() != ErrorKind::Interrupted
 }
 
-fn read_opened(fd: i32, bytes: &mut [u8]) -> FileRead
+fn read_opened<F: Read>(file: &mut F, bytes: &mut [u8]) -> FileRead
     ensures { result.size ≤ length bytes.old }
 {
-    let size = io::read_full(fd, bytes);
-    if size < bytes.len() {
-        if fails(fd) {
-            return missing();
+    let mut size = 0;
+    for _ in 0..u64::MAX {
+        if size == bytes.len() {
+            return FileRead { found: true, size };
+        }
+        match file.read(&mut bytes[size..]) {
+            Ok(0) => return FileRead { found: true, size },
+            Ok(n) => size += n,
+            Err(error) => {
+                if fails(error) {
+                    return missing();
+                }
+            }
         }
     }
-    FileRead { found: true, size }
+    missing()
 }
 
-// Reads the file that the program's argument i names into the lent bytes.
-pub fn read_named(i: usize, bytes: &mut [u8]) -> FileRead
+// Reads the file that the program's argument i names into the lent bytes. A name that is not UTF-8 names no file here.
+pub fn read_named<R: Env + Files>(rt: &R, i: usize, bytes: &mut [u8]) -> FileRead
     ensures { result.size ≤ length bytes.old }
 {
-    if os::arg_count() <= i {
+    let mut name = [0u8; NAME_ROOM];
+    let Ok(n) = rt.arg(i, &mut name) else {
         return missing();
-    }
-    let mut name = io::buffer();
-    let n = os::arg(i, &mut name);
-    let fd = os::open_read(&name[..n]);
-    if fd < 0 {
+    };
+    let Ok(name) = str::from_utf8(&name[..n]) else {
         return missing();
+    };
+    match fs::open(rt, name) {
+        Ok(mut file) => read_opened(&mut file, bytes),
+        Err(_) => missing(),
     }
-    let taken = read_opened(fd, bytes);
-    libc::close(fd);
-    taken
 }
