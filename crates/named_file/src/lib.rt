@@ -1,7 +1,7 @@
-// A file that an argument of the program names. What is read stands in no contract: only that it fits the lent bytes.
+// A file that an argument of the program names. What a file holds stands in no contract: only that what is read fits the lent bytes.
 #![tactic(auto)]
 
-ghost use Rattle.std.specs.Prelude.{◌≤◌, length};
+ghost use Rattle.std.specs.Prelude.{◌≡◌, ◌≤◌, true, false, length, take, IfSome};
 
 use std::io::{Error, ErrorKind, Read};
 use std::rt::{Env, Files};
@@ -18,7 +18,8 @@ pub struct FileRead {
 }
 
 fn missing() -> FileRead
-    ensures { result.size ≤ 0 }
+    ensures found { result.found ≡ false }
+    ensures size { result.size ≤ 0 }
 {
     FileRead {
         found: false,
@@ -31,8 +32,11 @@ fn fails(error: Error) -> bool {
     error.kind() != ErrorKind::Interrupted
 }
 
+// Reads to the end or until the lent bytes are full. Of a reader whose bytes are known, these are its first ones.
 fn read_opened<F: Read>(file: &mut F, bytes: &mut [u8]) -> FileRead
-    ensures { result.size ≤ length bytes.old }
+    ensures within { result.size ≤ length bytes.old }
+    ensures missing { result.found ≡ false → result.size ≡ 0 }
+    ensures first { result.found ≡ true → IfSome (F.remaining file.old) (λ xs. take result.size bytes.new ≡ take (length bytes.old) xs) }
 {
     let mut size = 0;
     for _ in 0..u64::MAX {
@@ -54,7 +58,8 @@ fn read_opened<F: Read>(file: &mut F, bytes: &mut [u8]) -> FileRead
 
 // Reads the file that the program's argument i names into the lent bytes. A name that is not UTF-8 names no file here.
 pub fn read_named<R: Env + Files>(rt: &R, i: usize, bytes: &mut [u8]) -> FileRead
-    ensures { result.size ≤ length bytes.old }
+    ensures within { result.size ≤ length bytes.old }
+    ensures missing { result.found ≡ false → result.size ≡ 0 }
 {
     let mut name = [0u8; NAME_ROOM];
     let Ok(n) = rt.arg(i, &mut name) else {
