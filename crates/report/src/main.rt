@@ -1,23 +1,31 @@
 // The report program of document 01. It is given three names: list, operands and schedule. Names after the third are ignored.
 #![tactic(auto)]
 
-use libc::STDOUT_FILENO;
 use named_file::read_named;
 use report_text::FilesFound;
 use report_text::report::{PAGE, report};
+use std::io;
+use std::rt::{Env, Files};
 
-// What cannot be written is told on standard error.
-fn write_out(text: &[u8]) {
-    if !io::write_all(STDOUT_FILENO, text) {
-        os::fail(&[b'r', b'e', b'p', b'o', b'r', b't']);
-    }
+// One byte more than a file may have.
+const FILE_ROOM: usize = 65537;
+
+// What cannot be written ends the program with the error.
+fn write_out(out: &impl Print, text: &[u8]) -> io::Result<()> {
+    out.write_all(text)
 }
 
 // Reads the files, and writes their report.
-fn print_report(list: &mut [u8], operands: &mut [u8], schedule: &mut [u8], out: &mut [u8]) {
-    let first = read_named(1, list);
-    let second = read_named(2, operands);
-    let third = read_named(3, schedule);
+fn print_report<R: Env + Files + Print>(
+    rt: &R,
+    list: &mut [u8],
+    operands: &mut [u8],
+    schedule: &mut [u8],
+    out: &mut [u8],
+) -> io::Result<()> {
+    let first = read_named(rt, 1, list);
+    let second = read_named(rt, 2, operands);
+    let third = read_named(rt, 3, schedule);
     let named = FilesFound {
         list: first.found,
         operands: second.found,
@@ -27,14 +35,14 @@ fn print_report(list: &mut [u8], operands: &mut [u8], schedule: &mut [u8], out: 
     let o = second.size;
     let s = third.size;
     let n = report(named, &list[..l], &operands[..o], &schedule[..s], out);
-    write_out(&out[..n]);
+    write_out(rt, &out[..n])
 }
 
 // Each buffer has one byte more than a file may have.
-fn main() {
-    let mut list = [0u8; 65537];
-    let mut operands = [0u8; 65537];
-    let mut schedule = [0u8; 65537];
+fn main(rt: HostRuntime) -> io::Result<()> {
+    let mut list = [0u8; FILE_ROOM];
+    let mut operands = [0u8; FILE_ROOM];
+    let mut schedule = [0u8; FILE_ROOM];
     let mut out = [0u8; PAGE];
-    print_report(&mut list, &mut operands, &mut schedule, &mut out);
+    print_report(&rt, &mut list, &mut operands, &mut schedule, &mut out)
 }

@@ -4,82 +4,79 @@
 
 ghost use Rattle.std.specs.Prelude.{◌+◌, ◌≤◌, ◌<◌, length};
 
-use libc::STDOUT_FILENO;
 use list_file::reader::read;
 use list_file::writer::write;
+use std::io::Read;
+use std::rt::{Files, Runtime};
+use std::{env, fs, io};
 use words::{Areas, LIST_LIMIT, Verdict, check_list, check_list_against};
 
-fn say(text: &[u8]) {
-    io::write_all(STDOUT_FILENO, text);
+// Bytes that are enough for every file, read or written.
+const FILE_ROOM: usize = 65536;
+
+fn say(out: &impl Print, text: &str) -> io::Result<()> {
+    print!(out; "{text}")
 }
 
-fn number(n: usize) {
-    io::print_decimal(STDOUT_FILENO, n as u64);
+fn number(out: &impl Print, n: usize) -> io::Result<()> {
+    print!(out; "{n}")
 }
 
-fn answer(what: &[u8], refusal: u32, place: usize) {
-    say(what);
-    number(refusal as usize);
-    say(b" at ");
-    number(place);
+fn answer(out: &impl Print, what: &str, refusal: u32, place: usize) -> io::Result<()> {
+    print!(out; "{what}{refusal} at {place}")
 }
 
-fn one_word(word: u32) {
-    say(b" ");
-    number(word as usize);
+fn one_word(out: &impl Print, word: u32) -> io::Result<()> {
+    print!(out; " {word}")
 }
 
 // The first four words of a buffer.
-fn first_words(list: &[u32]) {
-    let mut i = 0;
-    while i < list.len() {
-        if 4 <= i {
-            return;
-        }
-        one_word(list[i]);
-        i += 1;
+fn first_words(out: &impl Print, list: &[u32]) -> io::Result<()> {
+    for word in list.iter().take(4) {
+        one_word(out, *word)?;
     }
+    Ok(())
 }
 
 // Whether the writer gives a file back from its words.
-fn written_back(file: &[u8], list: &[u32], back: &mut [u8]) {
+fn written_back(out: &impl Print, file: &[u8], list: &[u32], back: &mut [u8]) -> io::Result<()> {
     let written = write(list, back);
     let length = written.length;
-    answer(b" write ", written.refusal, written.place);
-    say(b" length ");
-    number(length);
-    if length <= back.len() {
-        if check::same(file, &back[..length]) {
-            say(b" same");
-        }
+    answer(out, " write ", written.refusal, written.place)?;
+    say(out, " length ")?;
+    number(out, length)?;
+    if length <= back.len() && file == &back[..length] {
+        say(out, " same")?;
     }
+    Ok(())
 }
 
 // A list file: what the reader says of it, what the writer makes of its words, and how the buffer begins.
-fn list_file(bytes: &[u8], list: &mut [u32], back: &mut [u8]) {
+fn list_file(out: &impl Print, bytes: &[u8], list: &mut [u32], back: &mut [u8]) -> io::Result<()> {
     let got = read(bytes, list);
     let count = got.count;
-    answer(b" read ", got.refusal, got.place);
-    say(b" count ");
-    number(count);
+    answer(out, " read ", got.refusal, got.place)?;
+    say(out, " count ")?;
+    number(out, count)?;
     if list.len() < count {
-        return;
+        return Ok(());
     }
-    written_back(bytes, &list[..count], back);
-    say(b" words");
-    first_words(list);
-    say(b"\n");
+    written_back(out, bytes, &list[..count], back)?;
+    say(out, " words")?;
+    first_words(out, list)?;
+    say(out, "\n")
 }
 
-fn verdict(what: &[u8], v: Verdict) {
-    answer(what, v.refusal, v.place);
+fn verdict(out: &impl Print, what: &str, v: Verdict) -> io::Result<()> {
+    answer(out, what, v.refusal, v.place)
 }
 
 // A list of words: alone, against areas of 2 and 3 cells, and written with room for 12 bytes.
-fn list_words(list: &[u32]) {
-    verdict(b" alone ", check_list(list));
+fn list_words(out: &impl Print, list: &[u32]) -> io::Result<()> {
+    verdict(out, " alone ", check_list(list))?;
     verdict(
-        b" areas ",
+        out,
+        " areas ",
         check_list_against(
             list,
             Areas {
@@ -87,28 +84,26 @@ fn list_words(list: &[u32]) {
                 results: 3,
             },
         ),
-    );
+    )?;
     let mut file = [9u8; 12];
     let written = write(list, &mut file);
-    answer(b" write ", written.refusal, written.place);
-    say(b" length ");
-    number(written.length);
-    say(b" bytes");
-    hex_row(&file);
-    say(b"\n");
+    answer(out, " write ", written.refusal, written.place)?;
+    say(out, " length ")?;
+    number(out, written.length)?;
+    say(out, " bytes")?;
+    hex_row(out, &file)?;
+    say(out, "\n")
 }
 
-fn hex_byte(byte: u8) {
-    say(b" ");
-    io::print_hex(STDOUT_FILENO, byte as u64, 2);
+fn hex_byte(out: &impl Print, byte: u8) -> io::Result<()> {
+    print!(out; " {byte:02x}")
 }
 
-fn hex_row(bytes: &[u8]) {
-    let mut i = 0;
-    while i < bytes.len() {
-        hex_byte(bytes[i]);
-        i += 1;
+fn hex_row(out: &impl Print, bytes: &[u8]) -> io::Result<()> {
+    for byte in bytes {
+        hex_byte(out, *byte)?;
     }
+    Ok(())
 }
 
 fn wide(byte: u8) -> u32 {
@@ -129,59 +124,58 @@ fn words_of(bytes: &[u8], list: &mut [u32]) -> usize
     ensures { result ≤ length list.old }
 {
     let whole = bytes.len() / 4;
-    let mut count = 0;
-    while count < list.len() {
+    for count in 0..list.len() {
         if whole <= count {
             return count;
         }
         list[count] = hex_word(bytes, 4 * count);
-        count += 1;
     }
-    count
+    list.len()
 }
 
-fn one_list(bytes: &[u8], kind: u8) {
-    let mut back = io::large_buffer();
+fn one_list(out: &impl Print, bytes: &[u8], kind: u8) -> io::Result<()> {
     if kind == b'w' {
         let mut list = [0u32; 5000];
         let count = words_of(bytes, &mut list);
-        list_words(&list[..count]);
-        return;
+        return list_words(out, &list[..count]);
     }
+    let mut back = [0u8; FILE_ROOM];
     if kind == b's' {
         let mut short = [7u32; 2];
-        list_file(bytes, &mut short, &mut back);
-        return;
+        return list_file(out, bytes, &mut short, &mut back);
     }
     let mut long = [7u32; LIST_LIMIT];
-    list_file(bytes, &mut long, &mut back);
+    list_file(out, bytes, &mut long, &mut back)
 }
 
-fn one(name: &[u8], kind: u8) {
-    let fd = os::open_read(name);
-    if fd < 0 {
-        os::fail(name);
-        return;
-    }
-    let mut bytes = io::large_buffer();
-    let n = io::read_full(fd, &mut bytes);
-    libc::close(fd);
-    say(name);
-    one_list(&bytes[..n], kind);
+// A file's bytes, no more than there is room for.
+fn file_bytes<R: Files + Alloc>(rt: &R, name: &str) -> io::Result<Vec<u8, R::A>> {
+    let mut bytes = Vec::new(rt.alloc());
+    fs::open(rt, name)?
+        .take(FILE_ROOM as u64)
+        .read_to_end(&mut bytes)?;
+    Ok(bytes)
 }
 
-fn main() {
-    let count = os::arg_count();
-    let mut i = 1;
-    while i < count {
-        argument(i);
-        i += 1;
+// A file that can't be read is told on standard error.
+fn one(rt: &impl Runtime, name: &str, kind: u8) -> io::Result<()> {
+    match file_bytes(rt, name) {
+        Ok(bytes) => {
+            say(rt, name)?;
+            one_list(rt, bytes.as_slice(), kind)
+        }
+        Err(error) => eprintln!(rt; "{name}: {error}"),
     }
 }
 
-fn argument(i: usize) {
-    let mut name = io::buffer();
-    let n = os::arg(i, &mut name);
-    let kind = name[0];
-    one(&name[..n], kind);
+fn main(rt: HostRuntime) -> io::Result<()> {
+    for name in env::args(&rt)?.skip(1) {
+        argument(&rt, name.as_str())?;
+    }
+    Ok(())
+}
+
+fn argument(rt: &impl Runtime, name: &str) -> io::Result<()> {
+    let kind = name.as_bytes().first().copied().unwrap_or(0);
+    one(rt, name, kind)
 }

@@ -32,12 +32,10 @@ fn operand_of(waits: usize, value: usize) -> Operand {
 // The nine numbers of a change: kind, index, place, cell, operation, sink (waits, value), source (waits, value).
 fn nine_at(bytes: &[u8], start: usize, nine: &mut [usize]) -> usize {
     let mut at = start;
-    let mut i = 0;
-    while i < nine.len() {
+    for number in nine.iter_mut() {
         let found = scan_number(bytes, at);
-        nine[i] = found.value;
+        *number = found.value;
         at = found.at;
-        i += 1;
     }
     at
 }
@@ -131,16 +129,13 @@ fn change(s: Standing, bytes: &[u8]) -> Standing {
 // A count and so many changes, at most as many as there are bytes.
 pub(crate) fn changes(s: Standing, bytes: &[u8]) -> Standing {
     let counted = scan_number(bytes, s.at);
-    let count = counted.value;
     let m = s.machine;
     let mut now = Standing {
         machine: m,
         at: counted.at,
     };
-    let mut i = 0;
-    while i < count {
+    for _ in 0..counted.value {
         now = change(now, bytes);
-        i += 1;
     }
     now
 }

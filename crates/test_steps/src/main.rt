@@ -3,37 +3,42 @@
 #![tactic(auto)]
 
 use crate::say::text;
+use std::io::Read;
+use std::rt::{Files, Runtime};
+use std::{env, fs, io};
 
 mod changes;
 mod say;
 mod scan;
 mod session;
 
-fn one(name: &[u8]) {
-    let fd = os::open_read(name);
-    if fd < 0 {
-        os::fail(name);
-        return;
-    }
-    let mut bytes = io::buffer();
-    let n = io::read_full(fd, &mut bytes);
-    libc::close(fd);
-    text(name);
-    text(b"\n");
-    session::session(&bytes[..n]);
+// Bytes that are enough for every session.
+const SESSION_ROOM: u64 = 4096;
+
+// A session's bytes, no more than there is room for.
+fn session_bytes<R: Files + Alloc>(rt: &R, name: &str) -> io::Result<Vec<u8, R::A>> {
+    let mut bytes = Vec::new(rt.alloc());
+    fs::open(rt, name)?
+        .take(SESSION_ROOM)
+        .read_to_end(&mut bytes)?;
+    Ok(bytes)
 }
 
-fn argument(i: usize) {
-    let mut name = io::buffer();
-    let n = os::arg(i, &mut name);
-    one(&name[..n]);
+// A session that can't be read is told on standard error.
+fn one(rt: &impl Runtime, name: &str) -> io::Result<()> {
+    match session_bytes(rt, name) {
+        Ok(bytes) => {
+            text(rt, name)?;
+            text(rt, "\n")?;
+            session::session(rt, bytes.as_slice())
+        }
+        Err(error) => eprintln!(rt; "{name}: {error}"),
+    }
 }
 
-fn main() {
-    let count = os::arg_count();
-    let mut i = 1;
-    while i < count {
-        argument(i);
-        i += 1;
+fn main(rt: HostRuntime) -> io::Result<()> {
+    for name in env::args(&rt)?.skip(1) {
+        one(&rt, name.as_str())?;
     }
+    Ok(())
 }

@@ -1,35 +1,33 @@
 // What the program prints.
-use libc::STDOUT_FILENO;
 use machine_parts::{Operand, Register};
+use std::io;
 
-pub(crate) fn text(bytes: &[u8]) {
-    io::write_all(STDOUT_FILENO, bytes);
+pub(crate) fn text(out: &impl Print, what: &str) -> io::Result<()> {
+    print!(out; "{what}")
 }
 
-pub(crate) fn number(n: usize) {
-    io::print_decimal(STDOUT_FILENO, n as u64);
+pub(crate) fn number(out: &impl Print, n: usize) -> io::Result<()> {
+    print!(out; "{n}")
 }
 
-pub(crate) fn pattern(x: f64) {
-    text(b" ");
-    io::print_hex(STDOUT_FILENO, numbers::pattern_of(x), 16);
+pub(crate) fn pattern(out: &impl Print, x: f64) -> io::Result<()> {
+    let bits = numbers::pattern_of(x);
+    print!(out; " {bits:016x}")
 }
 
-pub(crate) fn register(r: Register) {
-    let o = r.operand;
-    match o {
-        Operand::Number(x) => pattern(x),
+pub(crate) fn register(out: &impl Print, r: Register) -> io::Result<()> {
+    match r.operand {
+        Operand::Number(x) => pattern(out, x),
         Operand::Waits(t) => {
-            text(b" tag ");
-            number(t.0 as usize);
+            text(out, " tag ")?;
+            number(out, t.0 as usize)
         }
     }
 }
 
-pub(crate) fn row(numbers: &[f64]) {
-    let mut i = 0;
-    while i < numbers.len() {
-        pattern(numbers[i]);
-        i += 1;
+pub(crate) fn row(out: &impl Print, numbers: &[f64]) -> io::Result<()> {
+    for x in numbers {
+        pattern(out, *x)?;
     }
+    Ok(())
 }

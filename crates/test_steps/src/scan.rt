@@ -63,17 +63,18 @@ pub(crate) fn row_at(bytes: &[u8], start: usize, row: &mut [f64]) -> Scanned
     let counted = scan_number(bytes, start);
     let mut at = counted.at;
     let count = counted.value;
-    let mut i = 0;
-    while i < row.len() {
+    for i in 0..row.len() {
         if count <= i {
             return Scanned { value: i, at };
         }
         let found = scan_number(bytes, at);
         at = found.at;
         row[i] = quarters(found.value);
-        i += 1;
     }
-    Scanned { value: i, at }
+    Scanned {
+        value: row.len(),
+        at,
+    }
 }
 
 // A count and so many words; above 16 one word, so many times.
@@ -86,8 +87,7 @@ pub(crate) fn words_at(bytes: &[u8], start: usize, words: &mut [u32]) -> Scanned
         at: counted.at,
     };
     let count = counted.value;
-    let mut i = 0;
-    while i < words.len() {
+    for i in 0..words.len() {
         if count <= i {
             return Scanned {
                 value: i,
@@ -96,10 +96,9 @@ pub(crate) fn words_at(bytes: &[u8], start: usize, words: &mut [u32]) -> Scanned
         }
         found = scan_word(bytes, found, count, i);
         words[i] = (found.value % 4294967296) as u32;
-        i += 1;
     }
     Scanned {
-        value: i,
+        value: words.len(),
         at: found.at,
     }
 }

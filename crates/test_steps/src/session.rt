@@ -8,135 +8,137 @@ use machine_parts::{Machine, Register, Released};
 use machine_steps::lowest::{Lowest, lowest_step};
 use machine_steps::step::step;
 use one_at_a_time::one_at_a_time;
+use std::io;
 use steps_left::{drained, steps_left};
 
-fn released(r: Released) {
+fn released(out: &impl Print, r: Released) -> io::Result<()> {
     match r {
-        Released::Nothing => text(b"\n"),
+        Released::Nothing => text(out, "\n"),
         Released::One(x) => {
-            text(b" release ");
-            number(x.place);
-            text(b" ");
-            number(x.cell);
-            pattern(x.number);
-            text(b"\n");
+            text(out, " release ")?;
+            number(out, x.place)?;
+            text(out, " ")?;
+            number(out, x.cell)?;
+            pattern(out, x.number)?;
+            text(out, "\n")
         }
     }
 }
 
 fn one_code(
+    out: &impl Print,
     s: Standing,
     bytes: &[u8],
     words: &[u32],
     operands: &[f64],
     results: &mut [f64],
-) -> Standing {
+) -> io::Result<Standing> {
     let found = scan_number(bytes, s.at);
     let code = (found.value % 4294967296) as u32;
     let m = s.machine;
     let stepped = step(m, words, operands, results, code);
-    number(code as usize);
-    text(b" ");
-    number(stepped.refusal as usize);
-    let r = stepped.released;
-    released(r);
-    let n = stepped.machine;
-    Standing {
-        machine: n,
+    number(out, code as usize)?;
+    text(out, " ")?;
+    number(out, stepped.refusal as usize)?;
+    released(out, stepped.released)?;
+    Ok(Standing {
+        machine: stepped.machine,
         at: found.at,
-    }
+    })
 }
 
 // A count and so many codes.
 fn codes(
+    out: &impl Print,
     start: Standing,
     bytes: &[u8],
     words: &[u32],
     operands: &[f64],
     results: &mut [f64],
-) -> Standing {
+) -> io::Result<Standing> {
     let counted = scan_number(bytes, start.at);
-    let count = counted.value;
     let m = start.machine;
     let mut now = Standing {
         machine: m,
         at: counted.at,
     };
-    let mut i = 0;
-    while i < count {
-        now = one_code(now, bytes, words, operands, results);
-        i += 1;
+    for _ in 0..counted.value {
+        now = one_code(out, now, bytes, words, operands, results)?;
     }
-    now
+    Ok(now)
 }
 
-fn flag(what: &[u8], set: bool) {
-    text(what);
-    if set {
-        text(b"1");
-        return;
-    }
-    text(b"0");
+fn flag(out: &impl Print, what: &str, set: bool) -> io::Result<()> {
+    text(out, what)?;
+    text(out, if set { "1" } else { "0" })
 }
 
-fn counted(what: &[u8], refusal: u32) {
-    text(what);
-    number(refusal as usize);
-    text(b" ");
+fn counted(out: &impl Print, what: &str, refusal: u32) -> io::Result<()> {
+    print!(out; "{what}{refusal} ")
 }
 
-fn lowest(code: Lowest) {
+fn lowest(out: &impl Print, code: Lowest) -> io::Result<()> {
     match code {
-        Lowest::Nothing => text(b"none"),
-        Lowest::Code(c) => number(c as usize),
+        Lowest::Nothing => text(out, "none"),
+        Lowest::Code(c) => number(out, c as usize),
     }
 }
 
-fn registers(four: [Register; Register::COUNT]) {
-    register(four[0]);
-    register(four[1]);
-    register(four[2]);
-    register(four[3]);
+fn registers(out: &impl Print, four: [Register; Register::COUNT]) -> io::Result<()> {
+    for r in four {
+        register(out, r)?;
+    }
+    Ok(())
 }
 
 // Good order, drained, steps left, lowest step, registers and result cells.
-fn standing(m: Machine, words: &[u32], operands: &[f64], results: &[f64]) {
-    flag(b"order ", good_order(m, words, operands, results));
-    flag(b" drained ", drained(m, words));
+fn standing(
+    out: &impl Print,
+    m: Machine,
+    words: &[u32],
+    operands: &[f64],
+    results: &[f64],
+) -> io::Result<()> {
+    flag(out, "order ", good_order(m, words, operands, results))?;
+    flag(out, " drained ", drained(m, words))?;
     let left = steps_left(m, words, operands, results);
-    counted(b" left ", left.refusal);
-    number(left.left);
+    counted(out, " left ", left.refusal)?;
+    number(out, left.left)?;
     let low = lowest_step(m, words, operands, results);
-    counted(b" lowest ", low.refusal);
-    let code = low.code;
-    lowest(code);
-    text(b"\nregisters");
-    let four = m.registers;
-    registers(four);
-    text(b"\ncells");
-    row(results);
-    text(b"\n");
+    counted(out, " lowest ", low.refusal)?;
+    lowest(out, low.code)?;
+    text(out, "\nregisters")?;
+    registers(out, m.registers)?;
+    text(out, "\ncells")?;
+    row(out, results)?;
+    text(out, "\n")
 }
 
 // The one-at-a-time run from the same start, with result cells of its own.
-fn alone(words: &[u32], operands: &[f64], cells: &mut [f64], starts: [f64; Register::COUNT]) {
+fn alone(
+    out: &impl Print,
+    words: &[u32],
+    operands: &[f64],
+    cells: &mut [f64],
+    starts: [f64; Register::COUNT],
+) -> io::Result<()> {
     let ran = one_at_a_time(words, operands, cells, starts);
-    text(b"alone ");
-    number(ran.refusal as usize);
-    let four = ran.registers;
-    row(&four);
-    row(cells);
-    text(b"\n");
+    text(out, "alone ")?;
+    number(out, ran.refusal as usize)?;
+    row(out, &ran.registers)?;
+    row(out, cells)?;
+    text(out, "\n")
 }
 
 fn run(
+    out: &impl Print,
     bytes: &[u8],
     start: usize,
     words: &[u32],
     operands: &[f64],
     results: &mut [f64],
     cells: &mut [f64],
-) {
+) -> io::Result<()> {
     let a = scan_number(bytes, start);
     let b = scan_number(bytes, a.at);
     let c = scan_number(bytes, b.at);
@@ -148,25 +150,21 @@ fn run(
         quarters(d.value),
     ];
     let f = fresh(words, operands, results, starts);
-    text(b"fresh ");
-    number(f.refusal as usize);
-    text(b"\n");
-    let m = f.machine;
-    let changed = changes(
-        Standing {
-            machine: m,
-            at: d.at,
-        },
-        bytes,
-    );
-    let done = codes(changed, bytes, words, operands, results);
-    let n = done.machine;
-    standing(n, words, operands, results);
-    alone(words, operands, cells, starts);
+    text(out, "fresh ")?;
+    number(out, f.refusal as usize)?;
+    text(out, "\n")?;
+    let first = Standing {
+        machine: f.machine,
+        at: d.at,
+    };
+    let changed = changes(first, bytes);
+    let done = codes(out, changed, bytes, words, operands, results)?;
+    standing(out, done.machine, words, operands, results)?;
+    alone(out, words, operands, cells, starts)
 }
 
 // The lists and areas that a session names.
-pub(crate) fn session(bytes: &[u8]) {
+pub(crate) fn session(out: &impl Print, bytes: &[u8]) -> io::Result<()> {
     let mut words = [0u32; 4097];
     let mut operands = [0.0f64; 16];
     let mut results = [0.0f64; 16];
@@ -178,14 +176,15 @@ pub(crate) fn session(bytes: &[u8]) {
     let have = o.value;
     let room = r.value;
     if 16 < room {
-        return;
+        return Ok(());
     }
     run(
+        out,
         bytes,
         r.at,
         &words[..count],
         &operands[..have],
         &mut results[..room],
         &mut cells[..room],
-    );
+    )
 }
