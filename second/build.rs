@@ -12,7 +12,7 @@ fn main() {
     let archive = folder.join("libwethertide.a");
     println!("cargo::rerun-if-changed={}", archive.display());
     if !archive.exists() {
-        println!("cargo::error=../target/staticlib/libwethertide.a is missing: run `rt staticlib wethertide` first");
+        println!("cargo::error=../target/staticlib/libwethertide.a is missing: run tools/build first");
     }
     println!("cargo::rustc-link-search=native={}", folder.display());
     println!("cargo::rustc-link-lib=static=wethertide");

@@ -1,13 +1,13 @@
 -- Writing what was read: the bytes of an accepted file are those of its count and its words, in shortest form.
 use mathlib.Core.Path.{◌≡◌, refl, sym, ap, ◌∙◌}
 use mathlib.Core.Bool.{Bool, true, false}
-use mathlib.Core.List.{List, [], ◌∷◌, ◌++◌, append_assoc}
-use Prim.Native.Nat.{ℕ, zero, suc, ◌+◌, ◌*◌, ◌/◌, ◌%◌, ◌≤◌, ◌<◌}
+use mathlib.Core.List.{List, [], ◌∷◌, ◌++◌}
+use Prim.Native.Nat.{ℕ, ◌+◌, ◌*◌, ◌/◌, ◌%◌, ◌≤◌, ◌<◌}
 use native.Mathlib.Omega.{arith}
 use lib.Dec.{ltb, eqb}
-use lib.ListN.{length, get_or, drop}
+use lib.ListN.{length}
 use borrow.Author.Tests.{ltb-true, ltb-false, eqb-true, eqb-false}
-use Rattle.seven_bit.specs.SevenBits.{Groups, whole, broken, number_in, bytes_of}
+use Rattle.seven_bit.specs.SevenBits.{whole, broken, number_in, bytes_of}
 use Rattle.list_file.specs.RoundTrip.{Bytes}
 use Rattle.seven_bit.proofs.Groups.{one_byte, cut-after_one, zero_second, two_bytes, cut-after-two, zero_third, three_bytes, large_third}
 use Rattle.seven_bit.proofs.Shortest.{bytes_one, bytes_two, bytes_three}

@@ -1,21 +1,19 @@
 -- Reading what was written: where a file goes on with a number's, a word's or a list's bytes, reading gives it back.
 use mathlib.Core.Path.{◌≡◌, refl, sym, ap, ◌∙◌}
-use mathlib.Core.Bool.{Bool, true, false, cond}
-use mathlib.Core.List.{List, [], ◌∷◌, ◌++◌, append_assoc, append-nil}
-use Prim.Native.Nat.{ℕ, zero, suc, ◌+◌, ◌*◌, ◌/◌, ◌%◌, ◌≤◌, ◌<◌}
+use mathlib.Core.Bool.{Bool, true, false}
+use mathlib.Core.List.{List, [], ◌∷◌, ◌++◌, append_assoc}
+use Prim.Native.Nat.{ℕ, suc, ◌+◌, ◌*◌, ◌/◌, ◌%◌, ◌≤◌}
 use native.Mathlib.Omega.{arith}
-use native.Mathlib.Nat.{add_assoc}
 use lib.Dec.{ltb}
-use lib.ListN.{length, drop, length-append, length-drop}
+use lib.ListN.{length, drop, length-drop}
 use lib.Seq.{drop-append_seam, drop-drop}
 use borrow.Author.Tests.{ltb-true, ltb-false, eq-eqb, le-ltb}
-use Rattle.words.specs.declared.Verdict.{Verdict}
 use Rattle.words.specs.Instructions.{operation_field, r1_field, operand_field, form_of}
 use Rattle.words.specs.Check.{operation_refusal, register_refusal, operand_refusal, first_bad, word_refusal, no_areas}
 use Rattle.words.proofs.Known.{known_operation, known_register, known_operand}
 use Rattle.words.proofs.Fields.{word_of_fields}
 use Rattle.words.proofs.Passes.{word_passes, list_passes}
-use Rattle.seven_bit.specs.SevenBits.{Groups, whole, number_in, Parsed, accepted, placed, number_at, bytes_of}
+use Rattle.seven_bit.specs.SevenBits.{whole, number_in, accepted, number_at, bytes_of}
 use Rattle.list_file.specs.Reading.{field_at, operand_at, r1_at, word_at, words_at}
 use Rattle.list_file.specs.Writing.{word_bytes, words_bytes}
 use Rattle.seven_bit.proofs.Groups.{one_byte, two_bytes, three_bytes}

@@ -1,14 +1,14 @@
 -- Rows of bytes stored one after another, and the bytes of a list word by word.
 use mathlib.Core.Path.{◌≡◌, refl, sym, ap, ◌∙◌}
 use mathlib.Core.List.{List, [], ◌∷◌, ◌++◌}
-use Prim.Native.Nat.{ℕ, suc, ◌+◌, ◌*◌, ◌≤◌, ◌<◌}
-use native.Mathlib.Nat.{add-zero, add-suc, suc-add}
+use Prim.Native.Nat.{ℕ, suc, ◌+◌, ◌≤◌, ◌<◌}
+use native.Mathlib.Nat.{add-zero}
 use native.Mathlib.Omega.{arith}
 use lib.ListN.{length, get_or, set, drop, length-append, drop_of_length-le}
 use lib.Seq.{sets, length-sets}
 use Rattle.words.specs.Instructions.{operation_field, r1_field, operand_field}
 use Rattle.seven_bit.specs.SevenBits.{bytes_of}
-use Rattle.list_file.specs.Writing.{word_bytes, words_bytes, file_of}
+use Rattle.list_file.specs.Writing.{word_bytes, words_bytes}
 use Rattle.seven_bit.proofs.Peel.{peel_one}
 use Rattle.seven_bit.proofs.Shortest.{few_bytes}
 

@@ -6,8 +6,7 @@ use native.Mathlib.Omega.{arith}
 use lib.ListN.{length, get_or, drop, length-append, drop_of_length-le}
 use borrow.Author.Tests.{lt-ltb, le-ltb}
 use Rattle.words.specs.Instructions.{list_limit}
-use Rattle.words.specs.declared.Verdict.{Verdict}
-use Rattle.words.specs.Check.{word_refusal, first_bad, list_check, list_check_alone, no_areas}
+use Rattle.words.specs.Check.{word_refusal, first_bad, list_check, no_areas}
 use Rattle.words.proofs.Bad.{bad_here, bad_later, bad_none}
 use Rattle.seven_bit.specs.SevenBits.{bytes_of}
 use Rattle.list_file.specs.Writing.{word_bytes, words_bytes, file_of}

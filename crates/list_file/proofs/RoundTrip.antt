@@ -1,22 +1,19 @@
 -- Demand 2's two round trips (their statements: specs/RoundTrip.antt).
 use mathlib.Core.Path.{◌≡◌, refl, sym, ap, ◌∙◌}
-use mathlib.Core.Bool.{Bool, true, false, cond}
-use mathlib.Core.List.{List, [], ◌∷◌, ◌++◌}
-use Prim.Native.Nat.{ℕ, zero, suc, ◌+◌, ◌≤◌, ◌<◌}
+use mathlib.Core.Bool.{Bool, true, false}
+use mathlib.Core.List.{List}
+use Prim.Native.Nat.{ℕ, ◌+◌, ◌≤◌, ◌<◌}
 use native.Mathlib.Omega.{arith}
 use lib.Dec.{ltb, eqb}
 use lib.ListN.{length, take, drop}
 use lib.Seq.{take-append_seam}
 use borrow.Author.Tests.{ltb-true, ltb-false, lt-ltb, le-ltb, eqb-true, eqb-false}
 use Rattle.words.specs.Instructions.{list_limit}
-use Rattle.words.specs.declared.Verdict.{Verdict}
-use Rattle.words.specs.Check.{first_bad, list_check, list_check_alone, first_of, no_areas}
-use Rattle.list_file.specs.declared.ListRead.{ListRead}
-use Rattle.list_file.specs.declared.Written.{Written}
+use Rattle.words.specs.Check.{list_check, list_check_alone, no_areas}
 use Rattle.seven_bit.specs.SevenBits.{Parsed, accepted, refused, bytes_of}
-use Rattle.list_file.specs.Reading.{field_at, words_at, count_refusal, list_in, answered, stored, over, read_answer, read_words}
-use Rattle.list_file.specs.Writing.{words_bytes, file_of, written_by, write_answer, write_bytes}
-use Rattle.list_file.specs.RoundTrip.{Bytes, ReadThenWrite, WriteThenRead}
+use Rattle.list_file.specs.Reading.{field_at, count_refusal, list_in, answered, read_answer, read_words}
+use Rattle.list_file.specs.Writing.{words_bytes, file_of, write_answer, write_bytes}
+use Rattle.list_file.specs.RoundTrip.{ReadThenWrite, WriteThenRead}
 use Rattle.list_file.proofs.Forward.{number-goes, field_goes, words_go, past}
 use Rattle.list_file.proofs.Inverse.{not_accepted, value_of}
 use Rattle.list_file.proofs.Refusals.{Real, list_real}

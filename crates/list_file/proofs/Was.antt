@@ -1,15 +1,15 @@
 -- What an accepted file holds at each of its places: the bytes of what was read there, and then the rest.
 use mathlib.Core.Path.{◌≡◌, refl, sym, ap, ◌∙◌}
-use mathlib.Core.List.{List, [], ◌∷◌, ◌++◌, append_assoc}
-use Prim.Native.Nat.{ℕ, zero, suc, ◌+◌, ◌≤◌, ◌<◌}
+use mathlib.Core.List.{List, ◌++◌, append_assoc}
+use Prim.Native.Nat.{ℕ, zero, suc, ◌+◌, ◌<◌}
 use native.Mathlib.Omega.{arith}
-use lib.ListN.{length, get_or, drop, drop_of_length-le}
+use lib.ListN.{length, drop, drop_of_length-le}
 use lib.Seq.{get_or-drop}
-use Rattle.words.specs.Instructions.{word_of, operation_field, r1_field, operand_field, form_of}
+use Rattle.words.specs.Instructions.{word_of, form_of}
 use Rattle.words.specs.Check.{operation_refusal, register_refusal, operand_refusal, no_areas}
-use Rattle.words.proofs.Known.{known_operation, known_register, known_operand}
+use Rattle.words.proofs.Known.{known_register, known_operand}
 use Rattle.words.proofs.Fields.{operation_of_word, r1_of-word, operand_of-word}
-use Rattle.seven_bit.specs.SevenBits.{Groups, whole, broken, number_in, Parsed, accepted, placed, number_at, bytes_of}
+use Rattle.seven_bit.specs.SevenBits.{Groups, whole, broken, number_in, accepted, placed, number_at, bytes_of}
 use Rattle.list_file.specs.Reading.{field_at, operand_at, r1_at, word_at, words_at, count_refusal, list_in}
 use Rattle.list_file.specs.Writing.{word_bytes, words_bytes, file_of}
 use Rattle.list_file.specs.RoundTrip.{Bytes}

@@ -11,8 +11,7 @@ use borrow.Author.Tests.{ltb-false, lt-ltb, le-ltb, eq-eqb, ne_eqb}
 use Rattle.words.specs.Instructions.{list_limit}
 use Rattle.words.specs.declared.Verdict.{Verdict}
 use Rattle.words.specs.declared.Areas.{Areas}
-use Rattle.words.specs.Check.{first_bad, list_check, list_check_alone, no_areas}
-use Rattle.list_file.specs.declared.Written.{Written}
+use Rattle.words.specs.Check.{first_bad, list_check, no_areas}
 use Rattle.seven_bit.specs.SevenBits.{bytes_of}
 use Rattle.list_file.specs.Writing.{words_bytes, file_of, write_answer, write_bytes}
 use Rattle.list_file.specs.Passes.{Measuring}

@@ -1,6 +1,5 @@
 -- What only private contracts cite: what the functions of the passes do, in terms of the reader's and the writer's definitions.
 use Rattle.std.specs.Prelude.{◌≡◌, List, ℕ, length}
-use Rattle.words.specs.declared.Verdict.{Verdict}
 use Rattle.words.specs.Check.{list_check_alone}
 use Rattle.seven_bit.specs.SevenBits.{Parsed, accepted}
 use Rattle.list_file.specs.Reading.{and_then}

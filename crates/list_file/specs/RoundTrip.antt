@@ -1,7 +1,5 @@
 -- Demand 2's two round trips: what they say. They are proved in proofs/.
-use Rattle.std.specs.Prelude.{◌≡◌, List, ℕ, ◌<◌, length, get_or, take}
-use Rattle.list_file.specs.declared.ListRead.{ListRead}
-use Rattle.list_file.specs.declared.Written.{Written}
+use Rattle.std.specs.Prelude.{◌≡◌, List, ℕ, ◌<◌, get_or, take}
 use Rattle.list_file.specs.Reading.{read_answer, read_words}
 use Rattle.list_file.specs.Writing.{write_answer, write_bytes}
 

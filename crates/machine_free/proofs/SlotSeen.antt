@@ -3,11 +3,10 @@ use mathlib.Core.Path.{◌≡◌, refl, ap}
 use mathlib.Core.Bool.{Bool, true, false, not, ◌&&◌, ◌||◌}
 use mathlib.Core.List.{List, map}
 use Prim.Native.Nat.{ℕ}
-use lib.Ieee.{nan}
 use lib.ListN.{get_or, get_or-map}
-use Rattle.theory_machine.specs.Machine.{num, free_buffer, free_station, free_store, store_cell}
+use Rattle.theory_machine.specs.Machine.{free_buffer, free_station, free_store, store_cell}
 use Rattle.theory_machine.specs.GoodOrder.{has_cell}
-use Rattle.machine_parts.specs.View.{view_register, view_buffer, view_buffer_state, view_station, view_station_state, view_store, view_store_state}
+use Rattle.machine_parts.specs.View.{view_buffer, view_buffer_state, view_station, view_station_state, view_store, view_store_state}
 use Rattle.machine_free.specs.Free.{cell_live_in}
 use Rattle.machine_parts.specs.declared.Buffer.{Buffer}
 use Rattle.machine_parts.specs.declared.BufferState.{BufferState}

@@ -2,7 +2,7 @@
 use mathlib.Core.Path.{◌≡◌, refl, sym, ap, ◌∙◌}
 use mathlib.Core.Bool.{Bool, ◌&&◌}
 use mathlib.Core.List.{List, map}
-use Prim.Native.Nat.{ℕ, ◌<◌}
+use Prim.Native.Nat.{ℕ}
 use lib.ListN.{get_or}
 use Rattle.numbers.specs.declared.Operation.{Operation}
 use Rattle.theory_machine.specs.Tags.{suits}

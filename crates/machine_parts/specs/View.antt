@@ -4,7 +4,6 @@ use Rattle.std.specs.Prelude.{List, [], map, ℕ, Float, length}
 use Rattle.theory_machine.specs.Machine as theory
 use Rattle.theory_machine.specs.Machine.{num, tag, free_buffer, waiting, full, free_station, holding, done, free_store, live, Lent, standing}
 use Rattle.theory_machine.specs.Issue.{Answer}
-use Rattle.machine_parts.specs.declared.Tag.{Tag}
 use Rattle.machine_parts.specs.declared.Operand.{Operand}
 use Rattle.machine_parts.specs.declared.Operand.TheVariants.{Number, Waits}
 use Rattle.machine_parts.specs.declared.Register.{Register}

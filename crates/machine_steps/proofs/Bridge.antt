@@ -1,28 +1,23 @@
 -- The order theorem speaks of the code (statements: specs/Chain.antt).
 use mathlib.Core.Path.{◌≡◌, refl, sym, ap, ◌∙◌}
-use mathlib.Core.Bool.{Bool, true, false, cond, not}
+use mathlib.Core.Bool.{Bool, true, false, cond}
 use mathlib.Core.Option.{Option, none, some}
-use mathlib.Core.List.{List, [], ◌∷◌}
-use Prim.Native.Nat.{ℕ, zero, suc, ◌+◌}
-use native.Mathlib.Omega.{arith}
+use mathlib.Core.List.{List, []}
+use Prim.Native.Nat.{ℕ, ◌+◌}
 use lib.Dec.{eqb}
 use lib.Ieee.{Float}
 use lib.ListN.{length, length-set}
-use borrow.Author.Tests.{eqb-true, eqb-false}
+use borrow.Author.Tests.{eqb-true}
 use Rattle.theory_machine.specs.Machine as theory
 use Rattle.theory_machine.specs.Machine.{Lent}
 use Rattle.theory_machine.specs.Binary64.{binary64}
-use Rattle.theory_machine.specs.Issue.{Answer, is_taken}
-use Rattle.theory_machine.specs.Steps.{step}
+use Rattle.theory_machine.specs.Issue.{is_taken}
 use Rattle.theory_machine.specs.OneAtATime.{Run}
 use Rattle.theory_machine.specs.Entries.{list_refusal, Fresh, fresh}
 use Rattle.theory_machine.specs.Asked.{State, written, logged, after, ask, asked, taken_of, begin}
-use Rattle.theory_machine.specs.Statement.{Outcome}
 use Rattle.theory_machine.proofs.Theorems.{order_theorem}
 use Rattle.machine_parts.specs.declared.Stepped.{Stepped}
-use Rattle.machine_parts.specs.declared.start.FreshMachine.{FreshMachine}
-use Rattle.machine_parts.specs.View.{view, view_released, view_stepped, lent}
-use Rattle.machine_parts.specs.Answers.{view_fresh}
+use Rattle.machine_parts.specs.View.{view, view_released, lent}
 use Rattle.machine_steps.specs.Step.{StepAnswer}
 use Rattle.machine_steps.specs.Chain.{Stand, seen, freshly, next, Chained, here, then, taken_in, Bridge, DemandThree}
 

@@ -1,6 +1,5 @@
 -- The contract of each public function determines its answer and what is lent to it.
 use mathlib.Core.Path.{◌≡◌, refl, sym, ap, ◌∙◌}
-use mathlib.Core.List.{List}
 use lib.Ieee.{Float}
 use Rattle.numbers.proofs.Determined.{Determines, DeterminesLent, one_answer}
 use Rattle.theory_machine.specs.Entries as theory

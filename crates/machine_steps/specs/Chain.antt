@@ -1,5 +1,5 @@
 -- Answers of `step`, chained over any codes; and demand 3 of them. Nothing is said of how an answer was made: only that it meets its contract.
-use Rattle.std.specs.Prelude.{◌≡◌, cond, List, [], ◌∷◌, ◌++◌, ℕ, ◌+◌, eqb, Float, length}
+use Rattle.std.specs.Prelude.{◌≡◌, cond, List, [], ◌∷◌, ℕ, ◌+◌, eqb, Float, length}
 use Rattle.theory_machine.specs.Machine as theory
 use Rattle.theory_machine.specs.Tags.{register_count}
 use Rattle.theory_machine.specs.Binary64.{binary64}

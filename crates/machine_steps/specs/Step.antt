@@ -1,6 +1,5 @@
 -- What a step answers and leaves.
 use Rattle.std.specs.Prelude.{◌≡◌, List, ℕ, Float}
-use Rattle.theory_machine.specs.Issue.{Answer}
 use Rattle.theory_machine.specs.Binary64.{binary64}
 use Rattle.theory_machine.specs.Steps.{step}
 use Rattle.theory_machine.specs.Asked.{written}

@@ -1,5 +1,5 @@
 -- The change that each kind of step comes to.
-use mathlib.Core.Path.{◌≡◌, refl, sym, ap, ◌∙◌}
+use mathlib.Core.Path.{◌≡◌, sym, ap, ◌∙◌}
 use Prim.Native.Nat.{ℕ}
 use native.Mathlib.Omega.{arith}
 use mathlib.Core.List.{[]}
@@ -10,20 +10,17 @@ use Rattle.theory_machine.specs.Machine.{Lent}
 use Rattle.theory_machine.specs.Binary64.{binary64}
 use Rattle.theory_machine.specs.Issue.{Answer}
 use Rattle.theory_machine.specs.Steps.{arrive, complete, grant_buffer, grant_station, release_store, perform}
-use Rattle.machine_parts.specs.View.{view_register, view_buffer, view_station, view_store, view, cells_alone}
+use Rattle.machine_parts.specs.View.{view_buffer, view_station, view_store, view, cells_alone}
 use Rattle.machine_parts.specs.declared.Machine.{Machine}
-use Rattle.machine_parts.specs.declared.Buffer.{Buffer}
 use Rattle.machine_parts.specs.declared.BufferState.TheVariants as buffer
-use Rattle.machine_parts.specs.declared.Station.{Station}
 use Rattle.machine_parts.specs.declared.StationState.TheVariants as station
-use Rattle.machine_parts.specs.declared.StoreBuffer.{StoreBuffer}
 use Rattle.machine_parts.specs.declared.StoreState.TheVariants as store
 use Rattle.machine_slots.specs.declared.code.Step.{Step}
 use Rattle.machine_slots.specs.declared.code.Step.TheVariants.{Unknown, Issue, Arrival, Completion, BufferGrant, StationGrant, Release}
 use Rattle.machine_take.specs.declared.change.Change.{Change}
 use Rattle.machine_take.specs.declared.change.Change.TheVariants.{Refused}
 use Rattle.machine_slots.specs.Slots.{ReadsAs}
-use Rattle.machine_take.specs.Changes.{changed, Makes, IssuesNext}
+use Rattle.machine_take.specs.Changes.{Makes, IssuesNext}
 use Rattle.machine_slots.proofs.Codes.{performed}
 use Rattle.machine_take.proofs.Arms.{Known}
 

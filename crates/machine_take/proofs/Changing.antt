@@ -1,5 +1,5 @@
 -- A change that was found out, by its case.
-use mathlib.Core.Path.{◌≡◌, refl, sym, ap, ◌∙◌}
+use mathlib.Core.Path.{◌≡◌, ap, ◌∙◌}
 use Prim.Native.Nat.{ℕ, ◌<◌}
 use borrow.Author.Tests.{lt-ltb}
 use Rattle.machine_parts.specs.TagOf.{tag_of_buffer, tag_of_station}
@@ -12,7 +12,7 @@ use Rattle.theory_machine.specs.Steps.{granted}
 use Rattle.machine_parts.specs.declared.Tag.{Tag}
 use Rattle.machine_take.specs.declared.change.Change.{Change}
 use Rattle.machine_take.specs.declared.change.Change.TheVariants.{Refused, Gives}
-use Rattle.machine_take.specs.Changes.{freed, changed, Named, Within, Grows, Makes}
+use Rattle.machine_take.specs.Changes.{freed, changed, Named, Makes}
 
 -- "known step not permitted now"
 pub refuses : {c : Change} {f : Machine Float → Answer Float} → c ≡ Refused 7 → ((m : Machine Float) → refused m 7 ≡ f m) → Makes c f

@@ -1,12 +1,12 @@
 -- A number of a schedule takes a byte or more.
-use mathlib.Core.Path.{◌≡◌, refl, sym}
+use mathlib.Core.Path.{◌≡◌}
 use mathlib.Core.Bool.{Bool, true, false, cond}
 use mathlib.Core.List.{List, [], ◌∷◌}
 use Prim.Native.Nat.{ℕ, zero, suc, ◌+◌, ◌<◌}
 use native.Mathlib.Omega.{arith}
 use lib.Dec.{eqb, ltb}
 use lib.ListN.{drop}
-use Rattle.seven_bit.specs.SevenBits.{Groups, whole, broken, group_of, group_size, follows, number_limit, after_second, joined, last_group, later_groups, groups, limited, number_in, Parsed, accepted, refused, placed, number_at}
+use Rattle.seven_bit.specs.SevenBits.{Groups, whole, broken, follows, number_limit, after_second, joined, last_group, later_groups, groups, limited, number_in, accepted, placed, number_at}
 
 abbrev Some : Groups → Type 0
 Some (whole value size) = 0 < size

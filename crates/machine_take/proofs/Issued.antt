@@ -1,11 +1,10 @@
 -- An issue: what the finders tell, what each instruction makes of that, and which instruction a word is.
 use mathlib.Core.Path.{◌≡◌, refl, sym, ap, ◌∙◌}
-use mathlib.Core.Bool.{Bool, true, false, cond, not, ◌&&◌}
+use mathlib.Core.Bool.{Bool, true, false, cond, ◌&&◌}
 use mathlib.Core.Option.{Option, none, some}
 use mathlib.Core.List.{List, [], map}
 use Prim.Native.Nat.{ℕ, ◌≤◌, ◌<◌}
 use native.Mathlib.Omega.{arith}
-use lib.Dec.{leb, eqb}
 use lib.Ieee.{Float, nan}
 use lib.ListN.{length, get_or, get_or-map, length-map}
 use borrow.Author.Tests.{le-leb, lt-leb, eq-eqb, ne_eqb}
@@ -19,12 +18,12 @@ use Rattle.theory_machine.specs.Tags.{buffer_count, station_count, store_count, 
 use Rattle.theory_machine.specs.Instruction.{Instruction, no_instruction, load, store, copy, cell_arithmetic, register_arithmetic, index_of, instruction, decode}
 use Rattle.theory_machine.specs.Machine.{Machine, Lent, areas_of, Operand, num, buffer_at, station_at, store_at, is_free_buffer, is_free_station, is_free_store}
 use Rattle.theory_machine.specs.Binary64.{binary64}
-use Rattle.theory_machine.specs.Issue.{refused, taken, lowest_buffer, lowest_station, lowest_store, cell_live, with_slot, with_both, loaded, with_cell, with_register, storing, issue_of, issue_next, word_at, refusal_of}
+use Rattle.theory_machine.specs.Issue.{refused, lowest_buffer, lowest_station, lowest_store, cell_live, with_slot, with_both, loaded, with_cell, with_register, storing, issue_of, issue_next, word_at, refusal_of}
 use Rattle.theory_machine.proofs.Rows.{first_some}
 use Rattle.theory_machine.proofs.Words.{WellFormed, word_formed}
 use Rattle.machine_parts.specs.View.{view_register, view_buffer, view_station, view_store}
 use Rattle.machine_free.specs.Free.{view_free_slot, lowest_buffer_in, lowest_station_in, lowest_store_in, cell_live_in}
-use Rattle.machine_take.specs.Changes.{changed, Within, Grows, instruction_for, RegistersIn, standing_slots, Issues, IssuesNext}
+use Rattle.machine_take.specs.Changes.{changed, Within, instruction_for, RegistersIn, standing_slots, Issues, IssuesNext}
 use Rattle.machine_take.specs.declared.change.Change.{Change}
 use Rattle.machine_take.specs.declared.change.Change.TheVariants.{Refused, Loads, TakesCell, Copies, TakesRegister, Stores}
 use Rattle.machine_free.specs.declared.FreeSlot.{FreeSlot}

@@ -1,21 +1,20 @@
 -- A machine comes back from its words (specs/Theorem.antt).
 use mathlib.Core.Path.{◌≡◌, refl, sym, ap, ◌∙◌, subst}
-use mathlib.Core.Bool.{cond}
 use mathlib.Core.List.{List, [], ◌∷◌, ◌++◌}
 use Prim.Native.Nat.{ℕ, zero, suc, ◌+◌, ◌*◌, ◌%◌, ◌≤◌, ◌<◌}
 use native.Mathlib.Nat.{not-suc-le-zero, add-zero, add_comm, zero-mul, suc-mul}
 use native.Mathlib.Omega.{arith}
 use lib.Ieee.{Float}
-use lib.ListN.{length, get_or, set, length-set, length-append, get_or-append}
+use lib.ListN.{length, set, length-set, length-append, get_or-append}
 use lib.Seq.{sets, length-sets, get_or-set_same, get_or-set_other, get_or-append-add}
 use Rattle.numbers.specs.declared.Operation.{Operation}
 use Rattle.numbers.specs.declared.Operation.TheVariants.{Add, Subtract, Multiply, Divide}
 use Rattle.numbers.specs.Number.{pattern_of}
 use Rattle.numbers.proofs.Same.{number_back}
-use Rattle.theory_machine.specs.Machine.{Machine, Shape, Operand, num, tag, Buffer, free_buffer, waiting, full, Station, free_station, holding, done, StoreBuffer, free_store, live}
+use Rattle.theory_machine.specs.Machine.{Operand, num, tag, Buffer, free_buffer, waiting, full, Station, free_station, holding, done, StoreBuffer, free_store, live}
 use Rattle.machine_words.specs.Rows.{word_at}
-use Rattle.machine_words.specs.Image.{operand_at, operation_at, buffer_at, station_at, store_at, row_at, machine_in, operand_words, operation_word, buffer_words, station_words, store_words, row_over, registers_over, buffers_over, stations_over, stores_over, image_over}
-use Rattle.machine_words.specs.Theorem.{OperandFits, BufferFits, StationFits, StoreFits, Each, MachineFits, ImageBack}
+use Rattle.machine_words.specs.Image.{operand_at, operation_at, buffer_at, station_at, store_at, row_at, operand_words, operation_word, buffer_words, station_words, store_words, row_over, registers_over, buffers_over, stations_over, stores_over}
+use Rattle.machine_words.specs.Theorem.{OperandFits, BufferFits, StationFits, StoreFits, Each, ImageBack}
 
 -- WORDS STORED IN A ROW
 before : (l ws : List ℕ) (p k : ℕ) → k < p → word_at (sets l p ws) k ≡ word_at l k

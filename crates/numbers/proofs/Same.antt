@@ -17,7 +17,7 @@ use Rattle.numbers.proofs.number_of.Reads as number-of-reads
 use Rattle.numbers.proofs.pattern_of.Kinds as pattern-of-kinds
 use Rattle.numbers.proofs.pattern_of.Reads as pattern-of-reads
 
--- 01: "A program writes every not_a_number as 7FF8000000000000"
+-- 01: "A program writes every not-a-number as 7FF8000000000000"
 pub not_a_number : pattern_of nan ≡ 0x7FF8_0000_0000_0000
 unfolding to_bits
 not_a_number = refl
@@ -26,11 +26,11 @@ not_a_number = refl
 pub number_back : (x : Float) → T (fits binary64 x) → number_of (pattern_of x) ≡ x
 number_back = of_bits-to_bits binary64
 
--- a pattern comes back from its number, unless the number is not_a_number
+-- a pattern comes back from its number, unless the number is not-a-number
 pub pattern_back : (n : ℕ) → n < 2 ^ 64 → T (not (is_nan (number_of n))) → pattern_of (number_of n) ≡ n
 pattern_back = to_bits-of_bits binary64
 
--- 01: "Two numbers are the same when their 64 bits are, or when both are not_a_number"
+-- 01: "Two numbers are the same when their 64 bits are, or when both are not-a-number"
 pub sameness : Sameness
 sameness p q fp fq = (apart (is_nan (number_of p)) refl, together)
   where

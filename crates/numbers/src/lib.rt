@@ -13,7 +13,7 @@ pub enum Operation {
     Divide,
 }
 
-// The pattern that a program writes for a not_a_number.
+// The pattern that a program writes for a not-a-number.
 pub const NOT_A_NUMBER: u64 = 0x7FF8_0000_0000_0000;
 
 // The pattern of +infinity: above it, the sign apart, stand the patterns of not-a-numbers alone.

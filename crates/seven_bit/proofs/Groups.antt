@@ -1,15 +1,12 @@
 -- What the bytes at a place give as a number, case by case as the code tests them.
-use mathlib.Core.Path.{◌≡◌, refl, ap, ◌∙◌}
+use mathlib.Core.Path.{◌≡◌, refl}
 use mathlib.Core.Bool.{Bool, true, false, cond}
 use mathlib.Core.List.{List, [], ◌∷◌}
-use Prim.Native.Nat.{ℕ, suc, ◌+◌, ◌*◌, ◌%◌, ◌≤◌, ◌<◌}
+use Prim.Native.Nat.{ℕ, ◌+◌, ◌*◌, ◌%◌, ◌≤◌, ◌<◌}
 use native.Mathlib.Omega.{arith}
-use native.Mathlib.Numerals.{add-one}
 use lib.Dec.{leb}
-use lib.ListN.{length, get_or, drop, drop_of_length-le}
-use lib.Seq.{drop-cons}
-use borrow.Author.Tests.{lt-leb, le-leb, leb-true, leb-false, le-ltb, lt-ltb, eq-eqb, ne_eqb}
-use Rattle.seven_bit.specs.SevenBits.{Groups, whole, broken, number_in, Parsed, accepted, refused, placed, number_at, limited, joined, last_group}
+use borrow.Author.Tests.{lt-leb, le-leb, leb-false, le-ltb, lt-ltb, ne_eqb}
+use Rattle.seven_bit.specs.SevenBits.{whole, broken, number_in, limited, joined, last_group}
 
 module _ (a : ℕ) (bytes : List ℕ) where
   pub one_byte : a < 128 → number_in (a ∷ bytes) ≡ whole a 1

@@ -1,10 +1,10 @@
 -- The number at a place of a file, by the tests that the code makes there. a, b and c are the bytes at the place.
-use mathlib.Core.Path.{◌≡◌, refl}
-use mathlib.Core.List.{List, [], ◌∷◌}
+use mathlib.Core.Path.{◌≡◌}
+use mathlib.Core.List.{List, []}
 use Prim.Native.Nat.{ℕ, ◌+◌, ◌*◌, ◌%◌, ◌≤◌, ◌<◌}
 use native.Mathlib.Omega.{arith}
 use lib.ListN.{length, get_or, drop, drop_of_length-le}
-use Rattle.seven_bit.specs.SevenBits.{number_in, Parsed, accepted, refused, number_at}
+use Rattle.seven_bit.specs.SevenBits.{number_in, accepted, refused, number_at}
 use Rattle.seven_bit.proofs.Peel.{peel_one, peel_two, peel_three, peel_last, peel_last_two}
 use Rattle.seven_bit.proofs.Groups.{one_byte, cut-after_one, zero_second, two_bytes, cut-after-two, zero_third, three_bytes, large_third}
 

@@ -1,5 +1,5 @@
 -- The claim, by computing.
-use mathlib.Core.Path.{◌≡◌, refl}
+use mathlib.Core.Path.{refl}
 use lib.Ieee.{to_bits, of_bits, add, sub, mul, div}
 use Rattle.words.specs.Instructions.{is_register, is_cell}
 use Rattle.words.specs.Check.{operation_refusal, register_refusal, cell_refusal, word_refusal, list_check}

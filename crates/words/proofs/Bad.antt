@@ -1,12 +1,11 @@
 -- Where the check of a list stands at one of its places.
-use mathlib.Core.Path.{◌≡◌, refl}
+use mathlib.Core.Path.{◌≡◌}
 use mathlib.Core.List.{List}
 use Prim.Native.Nat.{ℕ, ◌+◌, ◌≤◌, ◌<◌}
 use native.Mathlib.Numerals.{add-one}
 use lib.ListN.{length, get_or, drop, drop_of_length-le}
 use lib.Seq.{drop-cons}
 use borrow.Author.Tests.{eq-eqb, ne_eqb}
-use Rattle.words.specs.declared.Verdict.{Verdict}
 use Rattle.words.specs.declared.Areas.{Areas}
 use Rattle.words.specs.Check.{word_refusal, first_bad}
 

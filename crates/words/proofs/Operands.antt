@@ -1,7 +1,7 @@
 -- The operand's refusal, by what the operand is held to: a register's number or a cell's.
 use mathlib.Core.Path.{◌≡◌, refl, sym, ◌∙◌}
 use mathlib.Core.Bool.{Bool, true, false, cond, not, ◌&&◌, true≢false}
-use mathlib.Core.Logic.{◌⊎◌, inl, inr, ⊎_elim, ◌≢◌}
+use mathlib.Core.Logic.{inl, inr, ⊎_elim, ◌≢◌}
 use mathlib.Core.List.{List, [], ◌∷◌}
 use Prim.Native.Nat.{ℕ, zero, suc, ◌+◌, ◌≤◌, ◌<◌, ◌%◌}
 use native.Mathlib.Nat.{add-zero, not-suc-le-zero, le_of_suc-le-suc}

@@ -1,11 +1,11 @@
 -- A word that passes: none of its fields is refused; a list that passes: none of its words is.
 use mathlib.Core.Path.{◌≡◌, refl}
-use mathlib.Core.Bool.{Bool, true, false, cond}
+use mathlib.Core.Bool.{cond}
 use mathlib.Core.List.{List, [], ◌∷◌}
 use Prim.Native.Nat.{ℕ, zero, suc}
 use native.Mathlib.Omega.{arith}
 use lib.Dec.{eqb}
-use borrow.Author.Tests.{eqb-true, ne_eqb}
+use borrow.Author.Tests.{ne_eqb}
 use Rattle.words.specs.declared.Verdict.{Verdict}
 use Rattle.words.specs.declared.Areas.{Areas}
 use Rattle.words.specs.Instructions.{operation_field, r1_field, operand_field, form_of}

@@ -1,6 +1,5 @@
 -- Document 01, "Refusal numbers", 1 to 4: a word and a list, alone and against the lengths of the two areas. 0 is accepted.
 use Rattle.std.specs.Prelude.{cond, ◌&&◌, List, [], ◌∷◌, ℕ, suc, ltb, leb, eqb, length}
-use Rattle.numbers.specs.declared.Operation.{Operation}
 use Rattle.words.specs.declared.Form.{Form}
 use Rattle.words.specs.declared.Form.TheVariants.{Unknown, LD, LDR, CellArithmetic, RegisterArithmetic, STD}
 use Rattle.words.specs.declared.Verdict.{Verdict}

@@ -1,8 +1,5 @@
 use mathlib.Core.Path.{◌≡◌, sym, ap, ◌∙◌}
-use borrow.Author.Tests.{not-true, not-false}
-use borrow.Author.Rules.{rules}
 use Rattle.words.specs.declared.Verdict.{Verdict}
-use Rattle.words.specs.Check.{list_check}
 use Rattle.theory_machine.specs.Binary64.{binary64}
 use Rattle.theory_machine.proofs.Checks.{by_list, by_order, both_pass}
 use Rattle.machine_parts.specs.View.{view}

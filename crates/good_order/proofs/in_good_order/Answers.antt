@@ -1,12 +1,10 @@
-use mathlib.Core.Path.{◌≡◌, sym, ap, ◌∙◌}
-use Prim.Native.Nat.{ℕ, ◌≤◌}
-use lib.ListN.{length}
+use mathlib.Core.Path.{sym, ap, ◌∙◌}
+use Prim.Native.Nat.{ℕ}
 use native.Mathlib.Omega.{arith}
-use borrow.Author.Tests.{le-leb, lt-leb, not-true, not-false}
-use borrow.Author.Rules.{rules}
+use borrow.Author.Tests.{le-leb, lt-leb}
 use Rattle.theory_machine.specs.Binary64.{binary64}
 use Rattle.machine_parts.specs.View.{view}
-use Rattle.good_order.specs.SlotRules.{never, place_in, giver_place, stations_good, registers_good, stores_good}
+use Rattle.good_order.specs.SlotRules.{place_in, stations_good, registers_good, stores_good}
 use Rattle.good_order.proofs.Placed.{same_places}
 use Rattle.good_order.proofs.BySlots.{by_slots, row_fails, and_true}
 use Rattle.good_order.proofs.in_good_order.Goals as goal

@@ -1,7 +1,6 @@
 use Rattle.machine_parts.specs.View.{view_operand}
 use mathlib.Core.Path.{sym, ◌∙◌}
 use Rattle.machine_bus.proofs.Given.{operand_takes, operand_keeps}
-use borrow.Author.Rules.{rules}
 use Rattle.machine_bus.proofs.given_operand.Goals as goal
 
 pub returns-then-operand_waits : goal.returns-then-operand_waits

@@ -1,4 +1,3 @@
-use borrow.Author.Rules.{rules}
 use Rattle.machine_bus.proofs.given_station.Goals as goal
 
 pub returns-in-Holding : goal.returns-in-Holding

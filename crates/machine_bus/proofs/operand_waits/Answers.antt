@@ -1,4 +1,3 @@
-use borrow.Author.Rules.{rules}
 use Rattle.machine_bus.proofs.operand_waits.Goals as goal
 
 pub returns-in-Waits : goal.returns-in-Waits

@@ -1,4 +1,3 @@
-use borrow.Author.Rules.{rules}
 use Rattle.machine_bus.proofs.station_waits.Goals as goal
 
 pub returns-then-operand_waits : goal.returns-then-operand_waits

@@ -1,4 +1,3 @@
-use borrow.Author.Rules.{rules}
 use Rattle.machine_bus.proofs.store_waits.Goals as goal
 
 pub returns-in-Live : goal.returns-in-Live

@@ -1,5 +1,4 @@
 use Rattle.machine_free.proofs.SlotSeen.{live_cells}
-use borrow.Author.Rules.{rules}
 use Rattle.machine_free.proofs.cell_live.Goals as goal
 
 pub returns-then-store_has : goal.returns-then-store_has

@@ -1,4 +1,3 @@
-use borrow.Author.Rules.{rules}
 use Rattle.machine_free.proofs.station_serves.Goals as goal
 
 pub returns-then-suits : goal.returns-then-suits

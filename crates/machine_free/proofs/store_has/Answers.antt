@@ -1,4 +1,3 @@
-use borrow.Author.Rules.{rules}
 use Rattle.machine_free.proofs.store_has.Goals as goal
 
 pub returns-in-Live : goal.returns-in-Live

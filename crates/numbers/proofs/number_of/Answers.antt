@@ -1,4 +1,3 @@
-use borrow.Author.Rules.{rules}
 use lib.Ieee.{div, of_bits}
 use Rattle.numbers.proofs.NotANumber.{low_no_nan, high_nan}
 use Rattle.numbers.proofs.number_of.Goals as goal

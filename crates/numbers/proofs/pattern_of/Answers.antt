@@ -1,4 +1,3 @@
-use borrow.Author.Rules.{rules}
 use lib.Ieee.{to_bits}
 use Rattle.numbers.proofs.NotANumber.{nan_of, same_no_nan}
 use Rattle.numbers.proofs.pattern_of.Goals as goal

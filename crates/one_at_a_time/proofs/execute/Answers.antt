@@ -1,17 +1,11 @@
-use mathlib.Core.Path.{◌≡◌}
-use mathlib.Core.List.{[]}
 use native.Mathlib.Omega.{arith}
 use lib.Ieee.{nan}
-use borrow.Author.Rules.{rules}
-use Rattle.words.specs.declared.Form.{Form}
 use Rattle.words.specs.declared.Form.TheVariants.{Unknown, LD, LDR, STD}
-use Rattle.theory_machine.specs.Machine.{areas_of}
 use Rattle.theory_machine.specs.Instruction.{index_of}
 use Rattle.theory_machine.specs.Binary64.{binary64}
 use Rattle.theory_machine.proofs.Words.{cell_in_area}
-use Rattle.machine_parts.specs.View.{lent}
 use Rattle.machine_parts.proofs.Seen.{any_default}
-use Rattle.one_at_a_time.proofs.Decoded.{Decoded, decoded}
+use Rattle.one_at_a_time.proofs.Decoded.{decoded}
 use Rattle.one_at_a_time.proofs.execute.Goals as goal
 
 pub bounds-operands-cell : goal.bounds-operands-cell

@@ -1,13 +1,6 @@
-use mathlib.Core.Path.{◌≡◌}
 use Prim.Native.Nat.{◌-◌}
-use native.Mathlib.Omega.{arith}
 use lib.ListN.{length}
-use borrow.Author.Rules.{rules}
-use Rattle.theory_machine.specs.Tags.{register_count}
-use Rattle.theory_machine.specs.Binary64.{binary64}
-use Rattle.machine_parts.specs.View.{lent}
-use Rattle.machine_parts.proofs.Checked.{list_passes, run-refused, run-taken}
-use Rattle.one_at_a_time.proofs.Runs.{Running, running_none, running_checked, running_four, running_more, running_all}
+use Rattle.one_at_a_time.proofs.Runs.{Running}
 use Rattle.one_at_a_time.proofs.one_at_a_time.Given as goal
 
 abbrev pub invariant-loop-place : goal.invariant-loop-place

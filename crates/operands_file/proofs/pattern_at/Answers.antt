@@ -1,8 +1,7 @@
-use Prim.Native.Nat.{◌+◌, ◌-◌, ◌<◌}
+use Prim.Native.Nat.{◌+◌, ◌<◌}
 use lib.ListN.{get_or}
 use native.Mathlib.Omega.{arith}
-use borrow.Author.Rules.{rules}
-use Rattle.operands_file.proofs.Joining.{Joining, joining_none, joining_small, joining_more, joining_all}
+use Rattle.operands_file.proofs.Joining.{joining_none, joining_small, joining_more, joining_all}
 use Rattle.operands_file.proofs.pattern_at.Goals as goal
 
 pub loop-i-init : goal.loop-i-init

@@ -1,8 +1,5 @@
-use Prim.Native.Nat.{◌+◌, ◌-◌, ◌<◌}
-use lib.ListN.{get_or}
-use native.Mathlib.Omega.{arith}
-use borrow.Author.Rules.{rules}
-use Rattle.operands_file.proofs.Joining.{Joining, joining_none, joining_small, joining_more, joining_all}
+use Prim.Native.Nat.{◌-◌}
+use Rattle.operands_file.proofs.Joining.{Joining}
 use Rattle.operands_file.proofs.pattern_at.Given as goal
 
 abbrev pub invariant-loop-i : goal.invariant-loop-i

@@ -1,4 +1,3 @@
-use borrow.Author.Rules.{rules}
 use Rattle.operands_file.proofs.Answered.{read_refused, read_no_room, store_room, read_stored}
 use Rattle.operands_file.proofs.read_operands.Goals as goal
 

@@ -1,8 +1,7 @@
 use mathlib.Core.Path.{sym}
-use Prim.Native.Nat.{◌-◌, ◌/◌}
+use Prim.Native.Nat.{◌/◌}
 use lib.ListN.{length}
-use borrow.Author.Rules.{rules}
-use Rattle.operands_file.proofs.Joining.{Laying, laying_none, laying_more, laying_all, length-numbers}
+use Rattle.operands_file.proofs.Joining.{laying_none, laying_more, laying_all, length-numbers}
 use Rattle.operands_file.proofs.store_numbers.Goals as goal
 
 pub loop-i-init : goal.loop-i-init

@@ -1,8 +1,5 @@
-use mathlib.Core.Path.{sym}
-use Prim.Native.Nat.{◌-◌, ◌/◌}
-use lib.ListN.{length}
-use borrow.Author.Rules.{rules}
-use Rattle.operands_file.proofs.Joining.{Laying, laying_none, laying_more, laying_all, length-numbers}
+use Prim.Native.Nat.{◌-◌}
+use Rattle.operands_file.proofs.Joining.{Laying}
 use Rattle.operands_file.proofs.store_numbers.Given as goal
 
 abbrev pub invariant-loop-i : goal.invariant-loop-i

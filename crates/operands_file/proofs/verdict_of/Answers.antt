@@ -1,4 +1,3 @@
-use borrow.Author.Rules.{rules}
 use Rattle.operands_file.proofs.Answered.{too_many, cut, whole}
 use Rattle.operands_file.proofs.verdict_of.Goals as goal
 

@@ -1,6 +1,5 @@
 use native.Mathlib.Omega.{arith}
 use Rattle.seven_bit.proofs.NumberAt.{at_end, at_one, at-cut_one, at_zero_second, at-two, at-cut-two, at_zero_third, at_large_third, at_three}
-use borrow.Author.Rules.{rules}
 use Rattle.seven_bit.proofs.number_at.Goals as goal
 
 pub returns-then-bytes-at : goal.returns-then-bytes-at

@@ -4,7 +4,6 @@ use native.Mathlib.Numerals.{add-one, add-two}
 use lib.ListN.{length, length-set}
 use Rattle.seven_bit.proofs.Shortest.{bytes_one, bytes_two, bytes_three, few_bytes, two_or_more}
 use Rattle.seven_bit.proofs.Put.{put_large, put-short, put_there}
-use borrow.Author.Rules.{rules}
 use Rattle.seven_bit.proofs.put_number.Goals as goal
 
 pub returns-then-bytes-at : goal.returns-then-bytes-at

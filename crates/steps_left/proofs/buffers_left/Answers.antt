@@ -1,12 +1,12 @@
 use mathlib.Core.Path.{◌≡◌, sym, ◌∙◌}
-use Prim.Native.Nat.{◌-◌, ◌<◌}
+use Prim.Native.Nat.{◌<◌}
 use native.Mathlib.Omega.{arith}
 use lib.ListN.{length}
 use borrow.Author.Rules.{rules}
 use Rattle.theory_machine.specs.Count.{buffer_left}
 use Rattle.machine_parts.specs.View.{view_buffer}
 use Rattle.machine_parts.specs.declared.BufferState.TheVariants.{Free}
-use Rattle.steps_left.proofs.Sums.{sum-seen, Summed, summed_none, summed_more, summed_all, summed_fits}
+use Rattle.steps_left.proofs.Sums.{sum-seen, summed_none, summed_more, summed_all, summed_fits}
 use Rattle.steps_left.proofs.Weights.{buffer_weighs}
 use Rattle.steps_left.proofs.buffers_left.Goals as goal
 

@@ -1,5 +1,4 @@
 use borrow.Author.Tests.{eq-eqb, ne_eqb}
-use borrow.Author.Rules.{rules}
 use Rattle.theory_machine.specs.GoodOrder.{drained}
 use Rattle.steps_left.proofs.drained.Goals as goal
 

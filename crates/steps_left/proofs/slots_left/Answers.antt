@@ -1,10 +1,7 @@
 use Prim.Native.Nat.{◌+◌}
 use native.Mathlib.Omega.{arith}
-use lib.ListN.{length-map}
 use borrow.Author.Rules.{rules}
-use Rattle.theory_machine.specs.Machine.{Shape}
 use Rattle.machine_parts.specs.View.{view}
-use Rattle.steps_left.specs.SlotsLeft.{SlotsLeft}
 use Rattle.steps_left.proofs.Weights.{rows_weigh, slots_left}
 use Rattle.machine_parts.proofs.Whole.{whole}
 use Rattle.steps_left.proofs.slots_left.Goals as goal

@@ -1,6 +1,5 @@
 use mathlib.Core.Path.{sym, ◌∙◌}
 use native.Mathlib.Omega.{arith}
-use borrow.Author.Rules.{rules}
 use Rattle.theory_machine.specs.Binary64.{binary64}
 use Rattle.machine_parts.specs.View.{view}
 use Rattle.theory_machine.proofs.Entries.{left-refused, left-counted}

@@ -1,6 +1,3 @@
-use mathlib.Core.Path.{◌≡◌}
-use borrow.Author.Rules.{rules}
-use Rattle.words.specs.Instructions.{operation_field, form_of}
 use Rattle.theory_machine.specs.Instruction.{decode}
 use Rattle.steps_left.proofs.word_left.Goals as goal
 

@@ -1,10 +1,6 @@
-use Prim.Native.Nat.{◌-◌}
 use native.Mathlib.Omega.{arith}
-use lib.ListN.{length}
-use borrow.Author.Rules.{rules}
 use Rattle.theory_machine.specs.Instruction.{decode}
-use Rattle.theory_machine.specs.Count.{instruction_left}
-use Rattle.steps_left.proofs.Sums.{Summed, summed_none, summed_more, summed_all, summed_fits}
+use Rattle.steps_left.proofs.Sums.{summed_none, summed_more, summed_all, summed_fits}
 use Rattle.steps_left.proofs.Weights.{instruction_weighs}
 use Rattle.steps_left.proofs.words_left.Goals as goal
 

@@ -1,10 +1,7 @@
-use mathlib.Core.Path.{◌≡◌, refl, sym, ◌∙◌}
-use Prim.Native.Nat.{◌-◌, ◌≤◌}
+use mathlib.Core.Path.{refl, sym, ◌∙◌}
 use native.Mathlib.Omega.{arith}
-use borrow.Author.Rules.{rules}
 use borrow.Author.Tests.{lt-ltb, le-ltb}
-use lib.ListN.{length, drop}
-use Rattle.words.specs.Check.{first_bad, list_check}
+use Rattle.words.specs.Check.{list_check}
 use Rattle.words.proofs.Bad.{bad_here, bad_later, bad_none}
 use Rattle.words.proofs.check_list_against.Goals as goal
 

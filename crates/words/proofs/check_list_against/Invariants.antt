@@ -1,11 +1,7 @@
-use mathlib.Core.Path.{◌≡◌, refl, sym, ◌∙◌}
+use mathlib.Core.Path.{◌≡◌}
 use Prim.Native.Nat.{◌-◌, ◌≤◌}
-use native.Mathlib.Omega.{arith}
-use borrow.Author.Rules.{rules}
-use borrow.Author.Tests.{lt-ltb, le-ltb}
 use lib.ListN.{length, drop}
-use Rattle.words.specs.Check.{first_bad, list_check}
-use Rattle.words.proofs.Bad.{bad_here, bad_later, bad_none}
+use Rattle.words.specs.Check.{first_bad}
 use Rattle.words.proofs.check_list_against.Given as goal
 
 abbrev pub invariant-loop-place : goal.invariant-loop-place

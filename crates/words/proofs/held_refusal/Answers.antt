@@ -1,10 +1,5 @@
-use mathlib.Core.Bool.{Bool, true, false, cond}
-use Prim.Native.Nat.{ℕ, ◌≤◌}
-use native.Mathlib.Omega.{arith}
-use borrow.Author.Rules.{rules}
-use Rattle.words.proofs.Operands.{Judged, judged}
+use Rattle.words.proofs.Operands.{judged}
 use Rattle.words.proofs.held_refusal.Goals as goal
-use Rattle.words.proofs.held_refusal.Lts as place
 
 pub returns-then-limit-at : goal.returns-then-limit-at
 returns-then-limit-at c = (judged c.args.operand c.args.register c.args.area c.chosen-limit.ensures c.chosen-odd.ensures c.chosen-number.ensures).above c.if-limit-at.true

@@ -1,7 +1,6 @@
-use mathlib.Core.Path.{◌≡◌, sym, ap, ◌∙◌}
+use mathlib.Core.Path.{sym, ap, ◌∙◌}
 use Prim.Native.Nat.{◌%◌}
 use lib.Dec.{eqb}
-use borrow.Author.Rules.{rules}
 use Rattle.words.specs.Operands.{held_refusal}
 use Rattle.words.proofs.Operands.{by_none, by_its_operation}
 use Rattle.words.proofs.operand_refusal.Goals as goal

@@ -1,12 +1,10 @@
 use Prim.Native.Nat.{ℕ}
 use mathlib.Core.Path.{◌≡◌, sym, ap, ◌∙◌}
-use borrow.Author.Rules.{rules}
 use borrow.Author.Tests.{eq-eqb, ne_eqb}
-use Rattle.words.specs.Instructions.{operation_field, r1_field, operand_field, form_of}
+use Rattle.words.specs.Instructions.{form_of}
 use Rattle.words.specs.Check.{operation_refusal, register_refusal, operand_refusal, word_refusal}
 use Rattle.words.proofs.First.{last-refusal}
 use Rattle.words.proofs.word_refusal.Goals as goal
-use Rattle.words.proofs.word_refusal.Lts as place
 
 -- the refusal of a field, where the field was read off the word
 of_field : {A : Type 0} (f : A → ℕ) (x y : A) (r : ℕ) → r ≡ f x → x ≡ y → r ≡ f y

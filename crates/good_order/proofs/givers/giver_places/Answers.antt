@@ -1,4 +1,3 @@
-use borrow.Author.Rules.{rules}
 use Rattle.good_order.proofs.Placed.{table-laid}
 use Rattle.good_order.proofs.givers.giver_places.Goals as goal
 

@@ -1,11 +1,7 @@
 use Prim.Native.Nat.{◌-◌}
-use native.Mathlib.Omega.{arith}
-use lib.Ieee.{nan}
-use borrow.Author.Rules.{rules}
 use Rattle.theory_machine.specs.Machine.{num}
 use Rattle.theory_machine.specs.Binary64.{binary64}
-use Rattle.good_order.proofs.Loops.{Passed, passed_none, passed_more, passed_stop, passed_all}
-use Rattle.machine_parts.specs.declared.Operand.TheVariants.{Number}
+use Rattle.good_order.proofs.Loops.{Passed}
 use Rattle.machine_parts.specs.View.{view_register}
 use Rattle.good_order.specs.SlotRules.{place_in, register_good}
 use Rattle.good_order.proofs.row_rules.registers_good.Given as goal

@@ -1,13 +1,9 @@
 use mathlib.Core.Bool.{not}
 use mathlib.Core.Path.{ap}
-use Prim.Native.Nat.{◌-◌}
 use native.Mathlib.Omega.{arith}
 use borrow.Author.Rules.{rules}
-use Rattle.theory_machine.specs.Machine.{free_station}
-use Rattle.good_order.proofs.Loops.{Passed, passed_none, passed_more, passed_stop, passed_all}
+use Rattle.good_order.proofs.Loops.{passed_none, passed_more, passed_stop, passed_all}
 use Rattle.machine_parts.specs.declared.StationState.TheVariants as station
-use Rattle.machine_parts.specs.View.{view_station}
-use Rattle.good_order.specs.SlotRules.{place_in, station_good}
 use Rattle.good_order.proofs.row_rules.stations_good.Goals as goal
 
 pub loop-i-init : goal.loop-i-init

@@ -1,4 +1,3 @@
-use borrow.Author.Rules.{rules}
 use Rattle.good_order.proofs.Apart.{apart_by_pairs}
 use Rattle.good_order.proofs.row_rules.stores_apart.Goals as goal
 

@@ -1,9 +1,6 @@
 use Prim.Native.Nat.{◌-◌}
-use native.Mathlib.Omega.{arith}
-use borrow.Author.Rules.{rules}
 use Rattle.theory_machine.specs.Machine.{free_store}
-use Rattle.good_order.proofs.Loops.{Passed, passed_none, passed_more, passed_stop, passed_all}
-use Rattle.machine_parts.specs.declared.StoreState.TheVariants as store
+use Rattle.good_order.proofs.Loops.{Passed}
 use Rattle.machine_parts.specs.View.{view_store}
 use Rattle.good_order.specs.SlotRules.{place_in, store_good}
 use Rattle.good_order.proofs.row_rules.stores_good.Given as goal

@@ -1,5 +1,4 @@
 use borrow.Author.Tests.{lt-ltb, le-ltb}
-use borrow.Author.Rules.{rules}
 use Rattle.theory_machine.specs.Tags.{first_station}
 use Rattle.good_order.proofs.slot_rules.operand_good.Goals as goal
 

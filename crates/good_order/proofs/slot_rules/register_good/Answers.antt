@@ -1,4 +1,3 @@
-use borrow.Author.Rules.{rules}
 use Rattle.good_order.proofs.slot_rules.register_good.Goals as goal
 
 pub returns-in-Waits : goal.returns-in-Waits

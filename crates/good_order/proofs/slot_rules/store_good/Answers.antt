@@ -1,5 +1,4 @@
 use borrow.Author.Tests.{lt-ltb, le-ltb}
-use borrow.Author.Rules.{rules}
 use Rattle.good_order.proofs.slot_rules.store_good.Goals as goal
 
 pub returns-then-cell_good : goal.returns-then-cell_good

@@ -1,4 +1,3 @@
-use borrow.Author.Rules.{rules}
 use Rattle.good_order.proofs.slot_rules.stores_differ.Goals as goal
 
 pub returns-in-Live-y : goal.returns-in-Live-y

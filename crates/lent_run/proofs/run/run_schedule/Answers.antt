@@ -1,9 +1,7 @@
 use borrow.Author.Rules.{rules}
-use lib.ListN.{set}
-use Rattle.machine_parts.specs.View.{view}
 use Rattle.machine_parts.proofs.Whole.{whole}
 use Rattle.lent_run.proofs.Answers.{run-answers}
-use Rattle.lent_run.proofs.Going.{Going, begins, onward, over, falls}
+use Rattle.lent_run.proofs.Going.{begins, onward, over, falls}
 use Rattle.lent_run.proofs.run.run_schedule.Goals as goal
 
 pub loop-log-init : goal.loop-log-init

@@ -1,8 +1,6 @@
-use Prim.Native.Nat.{◌-◌}
 use native.Mathlib.Omega.{arith}
 use Rattle.list_file.proofs.Inverse.{told_as}
-use Rattle.list_file.proofs.Words.{Keeping, keeping_none, keeping_more, keeping_stops, keeping_left, keeping_all}
-use borrow.Author.Rules.{rules}
+use Rattle.list_file.proofs.Words.{keeping_none, keeping_more, keeping_stops, keeping_left, keeping_all}
 use Rattle.list_file.proofs.reader.keep_words.Goals as goal
 
 pub loop-i-init : goal.loop-i-init

@@ -1,8 +1,5 @@
 use Prim.Native.Nat.{◌-◌}
-use native.Mathlib.Omega.{arith}
-use Rattle.list_file.proofs.Inverse.{told_as}
-use Rattle.list_file.proofs.Words.{Keeping, keeping_none, keeping_more, keeping_stops, keeping_left, keeping_all}
-use borrow.Author.Rules.{rules}
+use Rattle.list_file.proofs.Words.{Keeping}
 use Rattle.list_file.proofs.reader.keep_words.Given as goal
 
 abbrev pub invariant-loop-i : goal.invariant-loop-i

@@ -3,7 +3,6 @@ use native.Mathlib.Omega.{arith}
 use Rattle.words.proofs.Known.{known_operation, known_register, known_operand}
 use Rattle.list_file.specs.Reading.{operand_at}
 use Rattle.list_file.proofs.Inverse.{told_as, field_passes, field_fails, field_broken}
-use borrow.Author.Rules.{rules}
 use Rattle.list_file.proofs.reader.operand_at.Goals as goal
 
 pub returns-then-own-ne0 : goal.returns-then-own-ne0

@@ -3,7 +3,6 @@ use lib.ListN.{length}
 use Rattle.list_file.specs.Reading.{count_refusal, list_in}
 use Rattle.list_file.proofs.Inverse.{told_as, field_passes, field_fails, field_broken}
 use Rattle.list_file.proofs.Passed.{count_of}
-use borrow.Author.Rules.{rules}
 use Rattle.list_file.proofs.reader.read.Goals as goal
 
 pub returns-then-own-ne0 : goal.returns-then-own-ne0

@@ -1,11 +1,8 @@
 use mathlib.Core.Path.{sym}
-use mathlib.Core.List.{List}
-use Prim.Native.Nat.{ℕ}
 use native.Mathlib.Omega.{arith}
 use lib.ListN.{take}
 use Rattle.list_file.proofs.Inverse.{kept_as}
 use Rattle.list_file.proofs.Words.{as_many}
-use borrow.Author.Rules.{rules}
 use Rattle.list_file.proofs.reader.read_words.Goals as goal
 
 pub slice_bounds-kept-end : goal.slice_bounds-kept-end

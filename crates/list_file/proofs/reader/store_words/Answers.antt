@@ -1,8 +1,5 @@
-use Prim.Native.Nat.{◌-◌}
 use native.Mathlib.Omega.{arith}
-use lib.ListN.{length}
-use Rattle.list_file.proofs.Passed.{Copying, copying_none, copying_same, copying_more, copying_all}
-use borrow.Author.Rules.{rules}
+use Rattle.list_file.proofs.Passed.{copying_none, copying_same, copying_more, copying_all}
 use Rattle.list_file.proofs.reader.store_words.Goals as goal
 
 pub loop-place-init : goal.loop-place-init

@@ -1,8 +1,6 @@
 use Prim.Native.Nat.{◌-◌}
-use native.Mathlib.Omega.{arith}
 use lib.ListN.{length}
-use Rattle.list_file.proofs.Passed.{Copying, copying_none, copying_same, copying_more, copying_all}
-use borrow.Author.Rules.{rules}
+use Rattle.list_file.proofs.Passed.{Copying}
 use Rattle.list_file.proofs.reader.store_words.Given as goal
 
 abbrev pub invariant-loop-place : goal.invariant-loop-place

@@ -1,7 +1,6 @@
 use mathlib.Core.Path.{sym, ◌∙◌}
 use Rattle.list_file.specs.Reading.{word_at}
 use Rattle.list_file.proofs.Inverse.{told_as, field_passes, field_fails, field_broken}
-use borrow.Author.Rules.{rules}
 use Rattle.list_file.proofs.reader.word_at.Goals as goal
 
 pub returns-then-own-ne0 : goal.returns-then-own-ne0

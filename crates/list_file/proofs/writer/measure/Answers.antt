@@ -1,10 +1,8 @@
 use mathlib.Core.Path.{sym, ◌∙◌}
-use Prim.Native.Nat.{◌-◌}
 use native.Mathlib.Omega.{arith}
-use borrow.Author.Rules.{rules}
-use lib.ListN.{length, get_or}
+use lib.ListN.{get_or}
 use Rattle.list_file.proofs.Laid.{nine_bytes}
-use Rattle.list_file.proofs.Measured.{Sizing, too_long_lem, sizing_none, sizing_more, sizing_bad, sizing_all}
+use Rattle.list_file.proofs.Measured.{too_long_lem, sizing_none, sizing_more, sizing_bad, sizing_all}
 use Rattle.list_file.proofs.writer.measure.Goals as goal
 
 pub returns-then-list-gt-LIST_LIMIT : goal.returns-then-list-gt-LIST_LIMIT

@@ -1,10 +1,6 @@
-use mathlib.Core.Path.{sym, ◌∙◌}
 use Prim.Native.Nat.{◌-◌}
-use native.Mathlib.Omega.{arith}
-use borrow.Author.Rules.{rules}
-use lib.ListN.{length, get_or}
-use Rattle.list_file.proofs.Laid.{nine_bytes}
-use Rattle.list_file.proofs.Measured.{Sizing, too_long_lem, sizing_none, sizing_more, sizing_bad, sizing_all}
+use lib.ListN.{length}
+use Rattle.list_file.proofs.Measured.{Sizing}
 use Rattle.list_file.proofs.writer.measure.Given as goal
 
 abbrev pub invariant-loop-place : goal.invariant-loop-place

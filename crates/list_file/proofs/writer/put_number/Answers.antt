@@ -1,5 +1,4 @@
 use native.Mathlib.Omega.{arith}
-use borrow.Author.Rules.{rules}
 use Rattle.seven_bit.proofs.Put.{put-fits}
 use Rattle.list_file.proofs.writer.put_number.Goals as goal
 

@@ -1,7 +1,6 @@
 use mathlib.Core.Path.{ap, ◌∙◌}
 use native.Mathlib.Omega.{arith}
 use Rattle.list_file.proofs.Laid.{size, word_size, sets_word}
-use borrow.Author.Rules.{rules}
 use Rattle.list_file.proofs.writer.put_word.Goals as goal
 
 pub put_number-second-requires : goal.put_number-second-requires

@@ -1,7 +1,4 @@
-use Prim.Native.Nat.{◌-◌}
-use borrow.Author.Rules.{rules}
-use lib.ListN.{length}
-use Rattle.list_file.proofs.Laid.{Putting, putting_none, putting_room, putting_more, putting_all}
+use Rattle.list_file.proofs.Laid.{putting_none, putting_room, putting_more, putting_all}
 use Rattle.list_file.proofs.writer.put_words.Goals as goal
 
 pub loop-place-init : goal.loop-place-init

@@ -1,7 +1,6 @@
 use Prim.Native.Nat.{◌-◌}
-use borrow.Author.Rules.{rules}
 use lib.ListN.{length}
-use Rattle.list_file.proofs.Laid.{Putting, putting_none, putting_room, putting_more, putting_all}
+use Rattle.list_file.proofs.Laid.{Putting}
 use Rattle.list_file.proofs.writer.put_words.Given as goal
 
 abbrev pub invariant-loop-place : goal.invariant-loop-place

@@ -3,7 +3,6 @@ use native.Mathlib.Omega.{arith}
 use lib.ListN.{length-append}
 use Rattle.list_file.specs.Writing.{word_bytes}
 use Rattle.seven_bit.proofs.Shortest.{few_bytes}
-use borrow.Author.Rules.{rules}
 use Rattle.list_file.proofs.writer.word_size.Goals as goal
 
 pub overflow_add-result : goal.overflow_add-result

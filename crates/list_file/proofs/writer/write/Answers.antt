@@ -4,7 +4,6 @@ use lib.ListN.{length, length-append}
 use Rattle.seven_bit.specs.SevenBits.{bytes_of}
 use Rattle.list_file.specs.Writing.{words_bytes}
 use Rattle.list_file.proofs.Wrote.{wrote_refused, wrote_short, wrote_all, wrote_within, sets_file}
-use borrow.Author.Rules.{rules}
 use Rattle.list_file.proofs.writer.write.Goals as goal
 
 pub returns-then-measured-ne0 : goal.returns-then-measured-ne0

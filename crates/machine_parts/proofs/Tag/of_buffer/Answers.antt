@@ -1,5 +1,4 @@
 use borrow.Author.Tests.{lt-ltb, le-ltb}
-use borrow.Author.Rules.{rules}
 use Rattle.machine_parts.proofs.Tag.of_buffer.Goals as goal
 
 pub returns-then-i-lt-BUFFERS : goal.returns-then-i-lt-BUFFERS

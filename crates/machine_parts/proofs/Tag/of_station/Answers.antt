@@ -1,6 +1,5 @@
 use native.Mathlib.Omega.{arith}
 use borrow.Author.Tests.{lt-ltb, le-ltb}
-use borrow.Author.Rules.{rules}
 use Rattle.machine_parts.proofs.Tag.of_station.Goals as goal
 
 pub returns-then-i-lt-STATIONS : goal.returns-then-i-lt-STATIONS

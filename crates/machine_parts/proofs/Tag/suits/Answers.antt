@@ -1,5 +1,4 @@
 use native.Mathlib.Omega.{arith}
-use borrow.Author.Rules.{rules}
 use Rattle.machine_parts.proofs.Adders.{no_station_lem, adder_index, other_index}
 use Rattle.machine_parts.proofs.Tag.suits.Goals as goal
 

@@ -1,4 +1,3 @@
-use borrow.Author.Rules.{rules}
 use Rattle.theory_machine.specs.Binary64.{binary64}
 use Rattle.machine_parts.proofs.Checked.{fresh-refused, fresh-taken}
 use Rattle.machine_parts.proofs.start.fresh.Goals as goal

@@ -1,6 +1,5 @@
 use mathlib.Core.Path.{refl}
 use native.Mathlib.Omega.{arith}
-use borrow.Author.Rules.{rules}
 use Rattle.theory_machine.proofs.Codes.{of_issue, of_arrival, of_completion, of_buffer_grant, of_station_grant, of_release}
 use Rattle.machine_slots.specs.declared.code.Step.TheVariants.{Issue, Arrival, Completion, BufferGrant, StationGrant, Release}
 use Rattle.machine_slots.proofs.Codes.{reads_row, reads_after}

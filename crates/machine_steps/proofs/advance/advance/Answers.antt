@@ -1,7 +1,6 @@
 use native.Mathlib.Omega.{arith}
 use borrow.Author.Tests.{not-true, not-false}
 use Rattle.machine_steps.proofs.Advancing.{not_begun_lem, never, few, has_room, no_release, release}
-use borrow.Author.Rules.{rules}
 use Rattle.machine_steps.proofs.advance.advance.Goals as goal
 
 pub returns-then-not-p : goal.returns-then-not-p

@@ -1,5 +1,4 @@
 use Rattle.machine_steps.proofs.Advancing.{begins_so}
-use borrow.Author.Rules.{rules}
 use Rattle.machine_steps.proofs.advance.begun.Goals as goal
 
 pub returns : goal.returns

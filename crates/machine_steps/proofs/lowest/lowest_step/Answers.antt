@@ -3,7 +3,6 @@ use mathlib.Core.Option.{Option}
 use Prim.Native.Nat.{ℕ}
 use Rattle.theory_machine.specs.Binary64.{binary64}
 use Rattle.theory_machine.proofs.Entries.{lowest-refused, lowest-found}
-use borrow.Author.Rules.{rules}
 use Rattle.machine_steps.proofs.lowest.lowest_step.Goals as goal
 
 pub returns-then-refused-ne-ACCEPTED : goal.returns-then-refused-ne-ACCEPTED

@@ -1,8 +1,6 @@
 use mathlib.Core.Path.{sym, ◌∙◌}
 use native.Mathlib.Omega.{arith}
-use borrow.Author.Tests.{not-true, not-false}
 use Rattle.machine_steps.proofs.Stepping.{too_long_lem, disordered, unknown, performed, stepped_is}
-use borrow.Author.Rules.{rules}
 use Rattle.machine_steps.proofs.step.step.Goals as goal
 
 pub returns-then-words-gt-LIST_LIMIT : goal.returns-then-words-gt-LIST_LIMIT

@@ -1,6 +1,5 @@
 use mathlib.Core.Path.{sym}
 use lib.Seq.{set_out}
-use borrow.Author.Rules.{rules}
 use Rattle.machine_steps.proofs.step.write_released.Goals as goal
 
 pub returns-then-cell-results : goal.returns-then-cell-results

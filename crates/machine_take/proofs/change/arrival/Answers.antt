@@ -1,5 +1,4 @@
 use Rattle.machine_take.proofs.Changing.{refuses}
-use borrow.Author.Rules.{rules}
 use Rattle.machine_take.proofs.change.arrival.Goals as goal
 
 pub returns-in-Free : goal.returns-in-Free

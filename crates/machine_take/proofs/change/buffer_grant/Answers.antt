@@ -1,6 +1,5 @@
 use Rattle.theory_machine.proofs.Tags.{slot_of_buffer}
 use Rattle.machine_take.proofs.Changing.{refuses, gives, buffer_tagged}
-use borrow.Author.Rules.{rules}
 use Rattle.machine_take.proofs.change.buffer_grant.Goals as goal
 
 pub returns-in-Free : goal.returns-in-Free

@@ -3,7 +3,6 @@ use lib.Ieee.{nan}
 use lib.ListN.{get_or-eq_default}
 use Rattle.numbers.specs.Number.{number_of}
 use Rattle.machine_parts.proofs.Seen.{any_default}
-use borrow.Author.Rules.{rules}
 use Rattle.machine_take.proofs.change.operand_cell.Goals as goal
 
 pub returns-then-cell-operands : goal.returns-then-cell-operands

@@ -1,6 +1,5 @@
 use Rattle.theory_machine.proofs.Tags.{slot_of_station}
 use Rattle.machine_take.proofs.Changing.{refuses, gives, station_tagged}
-use borrow.Author.Rules.{rules}
 use Rattle.machine_take.proofs.change.station_grant.Goals as goal
 
 pub returns-in-Free : goal.returns-in-Free

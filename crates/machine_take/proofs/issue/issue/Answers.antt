@@ -1,9 +1,7 @@
 use mathlib.Core.Path.{sym, ap, ◌∙◌}
 use Rattle.words.specs.Instructions.{form_of}
-use Rattle.machine_parts.specs.View.{lent_with}
 use Rattle.theory_machine.specs.Instruction.{index_of}
-use Rattle.machine_take.proofs.Issued.{Reading, well_formed, issue_goes, issue_end, issue_bad}
-use borrow.Author.Rules.{rules}
+use Rattle.machine_take.proofs.Issued.{well_formed, issue_goes, issue_end, issue_bad}
 use Rattle.machine_take.proofs.issue.issue.Goals as goal
 
 pub returns-then-words-place : goal.returns-then-words-place
@@ -14,18 +12,18 @@ returns-then-bad-ne-ACCEPTED c = issue_bad c.if-words-place.false c.word_refusal
 
 pub slots_for-requires : goal.slots_for-requires
 slots_for-requires c = well_formed (record {
-      in_list = c.if-words-place.false;
-      accepted = sym c.word_refusal-bad.ensures ∙ c.if-bad-ne-ACCEPTED.false;
-      r1 = c.index_of-r.ensures ∙ ap index_of c.r1_of.ensures;
-      rest = c.operand_of.ensures;
-      form = c.form_of-form.ensures ∙ ap form_of c.operation_of.ensures;
-    })
+  in_list = c.if-words-place.false;
+  accepted = sym c.word_refusal-bad.ensures ∙ c.if-bad-ne-ACCEPTED.false;
+  r1 = c.index_of-r.ensures ∙ ap index_of c.r1_of.ensures;
+  rest = c.operand_of.ensures;
+  form = c.form_of-form.ensures ∙ ap form_of c.operation_of.ensures;
+})
 
 pub returns : goal.returns
 returns c = issue_goes (record {
-      in_list = c.if-words-place.false;
-      accepted = sym c.word_refusal-bad.ensures ∙ c.if-bad-ne-ACCEPTED.false;
-      r1 = c.index_of-r.ensures ∙ ap index_of c.r1_of.ensures;
-      rest = c.operand_of.ensures;
-      form = c.form_of-form.ensures ∙ ap form_of c.operation_of.ensures;
-    }) c.slots_for.ensures
+  in_list = c.if-words-place.false;
+  accepted = sym c.word_refusal-bad.ensures ∙ c.if-bad-ne-ACCEPTED.false;
+  r1 = c.index_of-r.ensures ∙ ap index_of c.r1_of.ensures;
+  rest = c.operand_of.ensures;
+  form = c.form_of-form.ensures ∙ ap form_of c.operation_of.ensures;
+}) c.slots_for.ensures

@@ -1,6 +1,5 @@
 use mathlib.Core.Path.{sym, ◌∙◌}
 use Rattle.machine_take.proofs.Issued.{told, no_operation, load_waits, load_goes, copy_goes, cell-waits_buffer, cell-waits_station, cell-goes, register-waits, register-goes, store_twice, store_waits_lem, store_goes}
-use borrow.Author.Rules.{rules}
 use Rattle.machine_take.proofs.issue.slots_for.Goals as goal
 
 pub returns-then-cell_live : goal.returns-then-cell_live

@@ -1,4 +1,3 @@
-use borrow.Author.Rules.{rules}
 use Rattle.machine_words.proofs.image.machine_in.Goals as goal
 
 -- `registers`, `buffers` and `stations` are where the last of each row has been read

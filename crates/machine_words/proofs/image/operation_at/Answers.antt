@@ -1,4 +1,3 @@
-use borrow.Author.Rules.{rules}
 use Rattle.machine_words.proofs.Tests.{test_taken, test_left}
 use Rattle.machine_words.proofs.image.operation_at.Goals as goal
 

@@ -1,7 +1,6 @@
 use mathlib.Core.Path.{◌≡◌}
 use Prim.Native.Nat.{◌+◌}
 use native.Mathlib.Omega.{arith}
-use borrow.Author.Rules.{rules}
 use Rattle.machine_words.proofs.Tests.{test_taken, test_left}
 use Rattle.machine_words.proofs.image.station_at.Goals as goal
 

@@ -3,7 +3,6 @@ use Rattle.theory_machine.specs.Binary64.{binary64}
 use lib.ListN.{get_or-eq_default}
 use mathlib.Core.Path.{sym}
 use Rattle.machine_parts.proofs.Seen.{any_default}
-use borrow.Author.Rules.{rules}
 use Rattle.machine_words.proofs.row.number_or_zero.Goals as goal
 
 pub returns-then-place-row : goal.returns-then-place-row

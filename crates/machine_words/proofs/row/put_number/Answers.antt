@@ -1,6 +1,5 @@
 use mathlib.Core.Path.{sym}
 use lib.Seq.{set_out}
-use borrow.Author.Rules.{rules}
 use Rattle.machine_words.proofs.row.put_number.Goals as goal
 
 pub returns-else-place-row : goal.returns-else-place-row

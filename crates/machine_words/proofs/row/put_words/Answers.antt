@@ -1,9 +1,6 @@
-use Prim.Native.Nat.{◌-◌}
-use lib.ListN.{length}
 use native.Mathlib.Omega.{arith}
 use mathlib.Core.Path.{sym}
-use Rattle.machine_words.proofs.Rows.{PutSoFar, sets_out, put_none, put_more, put_all}
-use borrow.Author.Rules.{rules}
+use Rattle.machine_words.proofs.Rows.{sets_out, put_none, put_more, put_all}
 use Rattle.machine_words.proofs.row.put_words.Goals as goal
 
 pub returns-then-row-place : goal.returns-then-row-place

@@ -1,9 +1,6 @@
 use Prim.Native.Nat.{◌-◌}
 use lib.ListN.{length}
-use native.Mathlib.Omega.{arith}
-use mathlib.Core.Path.{sym}
-use Rattle.machine_words.proofs.Rows.{PutSoFar, sets_out, put_none, put_more, put_all}
-use borrow.Author.Rules.{rules}
+use Rattle.machine_words.proofs.Rows.{PutSoFar}
 use Rattle.machine_words.proofs.row.put_words.Given as goal
 
 abbrev pub invariant-loop-i : goal.invariant-loop-i

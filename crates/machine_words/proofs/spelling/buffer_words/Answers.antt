@@ -1,4 +1,3 @@
-use borrow.Author.Rules.{rules}
 use Rattle.machine_words.proofs.spelling.buffer_words.Goals as goal
 
 pub returns-in-Waiting : goal.returns-in-Waiting

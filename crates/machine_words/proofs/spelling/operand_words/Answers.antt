@@ -1,4 +1,3 @@
-use borrow.Author.Rules.{rules}
 use Rattle.machine_words.proofs.spelling.operand_words.Goals as goal
 
 pub returns-in-Number : goal.returns-in-Number

@@ -1,4 +1,3 @@
-use borrow.Author.Rules.{rules}
 use Rattle.machine_words.proofs.spelling.put_buffer.Goals as goal
 
 pub returns : goal.returns

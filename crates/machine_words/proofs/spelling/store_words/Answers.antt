@@ -1,6 +1,5 @@
 use Rattle.machine_parts.specs.View.{view_operand}
 use Rattle.machine_words.proofs.Words.{two-words}
-use borrow.Author.Rules.{rules}
 use Rattle.machine_words.proofs.spelling.store_words.Goals as goal
 
 pub returns-in-Live : goal.returns-in-Live

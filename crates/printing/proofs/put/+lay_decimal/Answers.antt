@@ -16,9 +16,9 @@ returns-then-n-lt10 t c = rw (decimal_one c.args.n c.if-n-lt10.true, c.digit.ens
 
 pub lay_decimal-last-requires : goal.lay_decimal-last-requires
 lay_decimal-last-requires t c = (
-    omega (arith, c.decreases),
-    room-first (decimal (c.args.n / 10)) (digit (c.args.n % 10) ∷ []) (rw (decimal_more c.args.n c.if-n-lt10.false) at c.requires),
-  )
+  omega (arith, c.decreases),
+  room-first (decimal (c.args.n / 10)) (digit (c.args.n % 10) ∷ []) (rw (decimal_more c.args.n c.if-n-lt10.false) at c.requires),
+)
 
 pub bounds-out-last : goal.bounds-out-last
 bounds-out-last t c =

@@ -1,5 +1,3 @@
-use Prim.Native.Nat.{◌-◌, ◌/◌, ◌%◌}
-use Rattle.printing.specs.Text.{digit, hexadecimal}
 use Rattle.printing.proofs.Putting.{put_one, put_then}
 use Rattle.printing.proofs.Decimals.{hexadecimal_more}
 use Rattle.printing.proofs.put.+lay_hexadecimal.Goals as goal

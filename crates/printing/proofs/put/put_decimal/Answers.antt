@@ -2,7 +2,6 @@ use mathlib.Core.Path.{ap}
 use mathlib.Core.Bool.{not}
 use native.Mathlib.Omega.{arith}
 use lib.ListN.{length}
-use borrow.Author.Rules.{rules}
 use Rattle.printing.specs.Text.{decimal}
 use Rattle.printing.specs.Put.{decimal_limit}
 use Rattle.printing.proofs.Decimals.{decimal_size}

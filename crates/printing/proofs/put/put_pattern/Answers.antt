@@ -2,7 +2,6 @@ use mathlib.Core.Path.{ap}
 use mathlib.Core.Bool.{not}
 use native.Mathlib.Omega.{arith}
 use lib.ListN.{length}
-use borrow.Author.Rules.{rules}
 use Rattle.numbers.specs.Number.{pattern_of}
 use Rattle.printing.specs.Text.{pattern}
 use Rattle.printing.specs.Put.{pattern_limit}

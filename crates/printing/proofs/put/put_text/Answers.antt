@@ -1,11 +1,9 @@
 use mathlib.Core.Bool.{not}
 use mathlib.Core.Path.{◌∙◌, ap}
-use Prim.Native.Nat.{◌+◌, ◌-◌, ◌≤◌}
 use native.Mathlib.Nat.{add-zero}
 use native.Mathlib.Omega.{arith}
-use borrow.Author.Rules.{rules}
-use lib.ListN.{length, drop}
-use Rattle.printing.proofs.Putting.{Going, going_none, going_byte, going_end, within, room_in_lem, not_put, is-put, asked_as, no_room, has_room, room-is}
+use lib.ListN.{length}
+use Rattle.printing.proofs.Putting.{going_none, going_byte, going_end, within, room_in_lem, not_put, is-put, asked_as, no_room, has_room, room-is}
 use Rattle.printing.proofs.put.put_text.Goals as goal
 
 pub returns-then-not-has_room : goal.returns-then-not-has_room

@@ -1,4 +1,3 @@
-use borrow.Author.Rules.{rules}
 use Rattle.printing.proofs.Putting.{nothing_put}
 use Rattle.printing.proofs.stop.put_line.Goals as goal
 

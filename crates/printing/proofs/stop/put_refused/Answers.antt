@@ -2,7 +2,6 @@ use mathlib.Core.Path.{ap}
 use mathlib.Core.Bool.{not}
 use native.Mathlib.Omega.{arith}
 use lib.ListN.{length}
-use borrow.Author.Rules.{rules}
 use Rattle.printing.specs.Put.{stop_limit}
 use Rattle.printing.proofs.Sizes.{refused_size}
 use Rattle.printing.proofs.Putting.{in_more, not_put, is-put, no_room, has_room, room-is, first-put, then-put}

@@ -1,7 +1,6 @@
 use mathlib.Core.Path.{ap, ◌∙◌}
 use Rattle.theory_report.specs.Report.{verdict_fault}
 use Rattle.report_text.proofs.Beginning.{verdict_passes, verdict_stops}
-use borrow.Author.Rules.{rules}
 use Rattle.report_text.proofs.begin.areas_fault.Goals as goal
 
 pub returns-then-verdict-eq0 : goal.returns-then-verdict-eq0

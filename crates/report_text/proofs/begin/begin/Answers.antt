@@ -3,7 +3,6 @@ use native.Mathlib.Omega.{arith}
 use lib.Seq.{length-take-le}
 use Rattle.report_text.proofs.Beginning.{no_fault}
 use Rattle.report_text.proofs.Stages.{stop_list, stop_operands, stop_schedule, begun}
-use borrow.Author.Rules.{rules}
 use Rattle.report_text.proofs.begin.begin.Goals as goal
 
 -- in each: where a file has been looked at has that file's name

@@ -1,6 +1,4 @@
-use borrow.Author.Tests.{not-true, not-false}
 use Rattle.report_text.proofs.Cells.{cells-missing, cells-long, cells-refused, cells-taken}
-use borrow.Author.Rules.{rules}
 use Rattle.report_text.proofs.begin.read_cells.Goals as goal
 
 pub returns-then-not-found : goal.returns-then-not-found

@@ -1,6 +1,4 @@
-use borrow.Author.Tests.{not-true, not-false}
 use Rattle.report_text.proofs.Beginning.{list-missing, list-long, list-refused, list-taken}
-use borrow.Author.Rules.{rules}
 use Rattle.report_text.proofs.begin.read_list.Goals as goal
 
 pub returns-then-not-found : goal.returns-then-not-found

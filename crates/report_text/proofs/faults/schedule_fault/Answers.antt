@@ -1,4 +1,3 @@
-use borrow.Author.Tests.{not-true, not-false}
 use Rattle.theory_report.specs.Report.{schedule_fault}
 use Rattle.report_text.proofs.FileFaults.{fault_missing, fault_long, fault_own}
 use Rattle.report_text.proofs.faults.schedule_fault.Goals as goal

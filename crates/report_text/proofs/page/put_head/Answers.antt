@@ -1,5 +1,4 @@
 use native.Mathlib.Omega.{arith}
-use borrow.Author.Rules.{rules}
 use Rattle.report_text.specs.Put.{refusal_limit, registers_limit, head_limit}
 use Rattle.printing.proofs.Putting.{in_then, left-room, first-put, then-put}
 use Rattle.report_text.proofs.page.put_head.Goals as goal

@@ -1,4 +1,3 @@
-use borrow.Author.Rules.{rules}
 use native.Mathlib.Omega.{arith}
 use Rattle.report_text.specs.Put.{tag_limit}
 use Rattle.printing.proofs.Putting.{in_more, first-put}

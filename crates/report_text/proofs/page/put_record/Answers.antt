@@ -1,6 +1,5 @@
 use native.Mathlib.Omega.{arith}
 use Rattle.theory_report.specs.Report.{record_line}
-use borrow.Author.Rules.{rules}
 use Rattle.report_text.specs.Put.{record_limit}
 use Rattle.printing.proofs.Putting.{first-put, then-put}
 use Rattle.report_text.proofs.page.put_record.Goals as goal

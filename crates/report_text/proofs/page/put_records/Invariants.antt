@@ -1,13 +1,7 @@
-use mathlib.Core.Path.{◌≡◌}
 use Prim.Native.Nat.{◌-◌, ◌*◌, ◌≤◌}
-use native.Mathlib.Omega.{arith}
-use borrow.Author.Rules.{rules}
-use lib.ListN.{length}
-use Rattle.theory_report.specs.Report.{log_room}
 use Rattle.printing.specs.Put.{PutIn}
 use Rattle.report_text.specs.Put.{record_limit}
-use Rattle.printing.proofs.Putting.{put_none, put-length, within, in_then, left-room}
-use Rattle.report_text.proofs.Rows.{first_lines, first_next, limit_next}
+use Rattle.report_text.proofs.Rows.{first_lines}
 use Rattle.report_text.proofs.page.put_records.Given as goal
 
 abbrev pub invariant-loop-i : goal.invariant-loop-i

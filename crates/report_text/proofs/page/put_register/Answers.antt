@@ -1,6 +1,5 @@
 use native.Mathlib.Omega.{arith}
 use Rattle.theory_report.specs.Report.{register_line}
-use borrow.Author.Rules.{rules}
 use Rattle.report_text.specs.Put.{tag_limit, register_limit}
 use Rattle.printing.proofs.Putting.{in_then, left-room, first-put, then-put}
 use Rattle.report_text.proofs.page.put_register.Goals as goal

@@ -4,7 +4,6 @@ use lib.Seq.{length-take-le}
 use Rattle.report_text.proofs.Beginning.{no_fault}
 use Rattle.report_text.proofs.Stages.{stop_text, run-text}
 use Rattle.report_text.proofs.Whole.{printed_none, printed_put}
-use borrow.Author.Rules.{rules}
 use Rattle.report_text.proofs.report.report.Goals as goal
 
 pub returns-then-out-lt-PAGE : goal.returns-then-out-lt-PAGE

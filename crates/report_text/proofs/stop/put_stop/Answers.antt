@@ -1,5 +1,4 @@
 use native.Mathlib.Omega.{arith}
-use borrow.Author.Rules.{rules}
 use Rattle.report_text.specs.Put.{page_room}
 use Rattle.printing.proofs.Putting.{in_more, first-put}
 use Rattle.report_text.proofs.stop.put_stop.Goals as goal

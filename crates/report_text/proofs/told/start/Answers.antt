@@ -1,7 +1,6 @@
 use mathlib.Core.Path.{ap}
 use lib.Ieee.{Float}
 use Rattle.theory_machine.specs.Entries.{Fresh}
-use borrow.Author.Rules.{rules}
 use Rattle.report_text.proofs.told.start.Goals as goal
 
 pub returns : goal.returns

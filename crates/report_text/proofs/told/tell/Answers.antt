@@ -1,6 +1,5 @@
 use mathlib.Core.Path.{ap}
 use Rattle.theory_machine.specs.Entries.{StepsLeft}
-use borrow.Author.Rules.{rules}
 use Rattle.report_text.proofs.told.tell.Goals as goal
 
 pub returns : goal.returns

@@ -1,5 +1,4 @@
 use mathlib.Core.Path.{refl}
-use borrow.Author.Rules.{rules}
 use borrow.Author.Tests.{le-leb, lt-leb}
 use Rattle.wethertide.proofs.Room.{is-short, is-roomy}
 use Rattle.wethertide.proofs.lists.wethertide_read_list.Goals as goal

@@ -1,4 +1,3 @@
-use borrow.Author.Rules.{rules}
 use Rattle.wethertide.proofs.machines.lowest_words.Goals as goal
 
 pub returns-in-Code : goal.returns-in-Code

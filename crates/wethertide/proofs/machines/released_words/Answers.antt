@@ -1,4 +1,3 @@
-use borrow.Author.Rules.{rules}
 use Rattle.wethertide.proofs.machines.released_words.Goals as goal
 
 pub returns-in-One : goal.returns-in-One

@@ -1,6 +1,5 @@
-use borrow.Author.Rules.{rules}
 use borrow.Author.Tests.{le-leb, lt-leb}
-use mathlib.Core.Path.{refl, ap, ◌∙◌}
+use mathlib.Core.Path.{refl, ap}
 use lib.Ieee.{Float}
 use Rattle.theory_machine.specs.Entries.{Fresh}
 use Rattle.machine_words.specs.Image.{image_over}

@@ -1,7 +1,6 @@
 use borrow.Author.Rules.{rules}
 use borrow.Author.Tests.{le-leb, lt-leb}
-use mathlib.Core.Path.{refl, ap, ◌∙◌}
-use mathlib.Core.List.{List}
+use mathlib.Core.Path.{refl, ap}
 use lib.Ieee.{Float, nan}
 use lib.Seq.{sets}
 use Rattle.theory_machine.specs.Entries.{OneAtATime}

@@ -1,8 +1,6 @@
-use borrow.Author.Rules.{rules}
 use borrow.Author.Tests.{le-leb, lt-leb}
-use mathlib.Core.Path.{refl, ap, ◌∙◌}
-use mathlib.Core.List.{List, [], ◌∷◌}
-use Prim.Native.Nat.{ℕ}
+use mathlib.Core.Path.{refl, ap}
+use mathlib.Core.List.{[], ◌∷◌}
 use lib.Seq.{sets}
 use Rattle.theory_machine.specs.Entries.{StepsLeft}
 use Rattle.wethertide.proofs.Entries.{carried}

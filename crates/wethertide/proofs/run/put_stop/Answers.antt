@@ -1,5 +1,4 @@
 use Rattle.wethertide.specs.Entries.{room_in}
-use borrow.Author.Rules.{rules}
 use borrow.Author.Tests.{not-true, not-false, lt-ltb, le-ltb}
 use Rattle.wethertide.proofs.run.put_stop.Goals as goal
 

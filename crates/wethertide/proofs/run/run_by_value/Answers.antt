@@ -1,14 +1,8 @@
-use mathlib.Core.Path.{◌≡◌, ap, ◌∙◌}
-use mathlib.Core.Bool.{cond}
-use Prim.Native.Nat.{suc}
-use lib.ListN.{length-map}
+use mathlib.Core.Path.{ap, ◌∙◌}
 use borrow.Author.Rules.{rules}
-use Rattle.theory_machine.specs.Machine.{Shape}
-use Rattle.machine_parts.specs.View.{view}
 use Rattle.machine_parts.proofs.Whole.{whole}
 use Rattle.machine_steps.specs.declared.advance.Progress.{Progress}
-use Rattle.lent_run.specs.ByReleases.{left}
-use Rattle.wethertide.proofs.Logging.{Logs, logs_none, logs_stop, logs_less, logs_run, none_at_first}
+use Rattle.wethertide.proofs.Logging.{logs_none, logs_stop, logs_less, logs_run, none_at_first}
 use Rattle.wethertide.proofs.run.run_by_value.Goals as goal
 
 pub loop-going-init : goal.loop-going-init

@@ -1,5 +1,4 @@
 use mathlib.Core.Path.{refl}
-use borrow.Author.Rules.{rules}
 use borrow.Author.Tests.{le-leb, lt-leb}
 use Rattle.wethertide.proofs.Entries.{run-words}
 use Rattle.wethertide.proofs.Room.{not_first, both_tests, is-short, is-roomy}
