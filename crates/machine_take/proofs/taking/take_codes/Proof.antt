@@ -170,15 +170,15 @@ take_codes_spec =
     (λ c. search rules)
     bounds.mul-sink-2
     bounds.element-copy-out-sink-2
-    bounds.mul-source
-    bounds.element-copy-out-source
-    bounds.of-station-requires-2
-    bounds.waiting-register-requires-4
-    (λ c κs. search rules)
-    bounds.mul-t118
-    bounds.element-set-from-n-6
-    bounds.mul-waits
-    bounds.element-set-from-waits
+    bounds.takes-1
+    bounds.takes-2
+    bounds.takes-3
+    bounds.takes-4
+    bounds.takes-5
+    bounds.takes-6
+    bounds.takes-7
+    bounds.takes-8
+    bounds.takes-9
     bounds.add-n-4
     (λ c. search rules)
     bounds.mul-operand

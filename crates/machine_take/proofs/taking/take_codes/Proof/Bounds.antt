@@ -134,11 +134,42 @@ of-station-requires-2 c κs = search rules
 pub waiting-register-requires-4 : tie.Need-waiting_register-waits-requires Inv-loop2 μ-loop2 Inv-loop3 μ-loop3 Inv-loop4 μ-loop4 Inv-loop μ-loop
 waiting-register-requires-4 c κs = search rules
 
+pub holding-requires-2 : tie.Need-holding-requires-in-TakesRegister Inv-loop2 μ-loop2 Inv-loop3 μ-loop3 Inv-loop4 μ-loop4 Inv-loop μ-loop
+holding-requires-2 c κs = search rules
+
 pub mul-waits : tie.Need-offset_bounds-n-r1-in-TakesRegister-2 Inv-loop2 μ-loop2 Inv-loop3 μ-loop3 Inv-loop4 μ-loop4 Inv-loop μ-loop
 mul-waits c = omega (arith, (is_within (known c.before.before.before.before.before.before) c.in-TakesRegister.is).0)
 
 pub element-set-from-waits : tie.Need-bounds-n-r1-in-TakesRegister-2 Inv-loop2 μ-loop2 Inv-loop3 μ-loop3 Inv-loop4 μ-loop4 Inv-loop μ-loop
 element-set-from-waits c = (is_within (known c.before.before.before.before.before.before) c.in-TakesRegister.is).0
+
+-- what the arm TakesRegister owes once its first operand is read, in the order of the code
+pub takes-1 : tie.Need-offset_bounds-n-r2-in-TakesRegister Inv-loop2 μ-loop2 Inv-loop3 μ-loop3 Inv-loop4 μ-loop4 Inv-loop μ-loop
+takes-1 = mul-source
+
+pub takes-2 : tie.Need-bounds-n-r2-in-TakesRegister Inv-loop2 μ-loop2 Inv-loop3 μ-loop3 Inv-loop4 μ-loop4 Inv-loop μ-loop
+takes-2 = element-copy-out-source
+
+pub takes-3 : tie.Need-of_station-requires-in-TakesRegister Inv-loop2 μ-loop2 Inv-loop3 μ-loop3 Inv-loop4 μ-loop4 Inv-loop μ-loop
+takes-3 = of-station-requires-2
+
+pub takes-4 : tie.Need-waiting_register-waits-requires Inv-loop2 μ-loop2 Inv-loop3 μ-loop3 Inv-loop4 μ-loop4 Inv-loop μ-loop
+takes-4 = waiting-register-requires-4
+
+pub takes-5 : tie.Need-holding-requires-in-TakesRegister Inv-loop2 μ-loop2 Inv-loop3 μ-loop3 Inv-loop4 μ-loop4 Inv-loop μ-loop
+takes-5 = holding-requires-2
+
+pub takes-6 : tie.Need-offset_bounds-n-u-in-TakesRegister Inv-loop2 μ-loop2 Inv-loop3 μ-loop3 Inv-loop4 μ-loop4 Inv-loop μ-loop
+takes-6 = mul-t118
+
+pub takes-7 : tie.Need-bounds-n-u-in-TakesRegister Inv-loop2 μ-loop2 Inv-loop3 μ-loop3 Inv-loop4 μ-loop4 Inv-loop μ-loop
+takes-7 = element-set-from-n-6
+
+pub takes-8 : tie.Need-offset_bounds-n-r1-in-TakesRegister-2 Inv-loop2 μ-loop2 Inv-loop3 μ-loop3 Inv-loop4 μ-loop4 Inv-loop μ-loop
+takes-8 = mul-waits
+
+pub takes-9 : tie.Need-bounds-n-r1-in-TakesRegister-2 Inv-loop2 μ-loop2 Inv-loop3 μ-loop3 Inv-loop4 μ-loop4 Inv-loop μ-loop
+takes-9 = element-set-from-waits
 
 pub add-n-4 : tie.Need-overflow_add-n-in-TakesRegister Inv-loop2 μ-loop2 Inv-loop3 μ-loop3 Inv-loop4 μ-loop4 Inv-loop μ-loop
 add-n-4 c =
