@@ -1,98 +1,18 @@
--- `take_codes` meets its contract: the codes of a schedule, taken up to and including the next release (a turn: Proof/Turn.antt; its arms: Proof/Arms.antt; its bounds: Proof/Bounds.antt).
+-- `take_codes` meets its contract: the codes of a schedule, taken up to and including the next release (a turn: Proof/Turn.antt; its arms: Proof/Arms.antt; its bounds:
+-- Proof/Bounds.antt; a grant: Proof/Given.antt; the ends: Proof/Ends.antt).
 mod Arms
 mod Bounds
+mod Ends
+mod Given
 mod Turn
-use mathlib.Core.Path.{refl, sym, ap, ◌∙◌}
-use native.Mathlib.Omega.{arith}
-use lib.Ieee.{nan}
-use lib.ListN.{length-map}
-use borrow.Author.Tests.{not-true, not-false}
-use Rattle.machine_parts.specs.View.{view}
-use Rattle.machine_parts.specs.declared.Operand.TheVariants.{Number}
-use Rattle.machine_parts.specs.declared.StationState.TheVariants as station
-use Rattle.machine_parts.specs.declared.StoreState.TheVariants as store
-use Rattle.seven_bit.specs.Told.{told}
-use Rattle.machine_parts.proofs.Whole.{whole}
-use Rattle.machine_take.proofs.Takes.{begins, at_end, number_stops, step_stops, full_stops, release_stops}
-use Rattle.machine_bus.proofs.Given.{giving_none, register-given, register_kept, station_given, station_kept, store_given, store_kept}
-use Rattle.machine_take.proofs.Arms.{is_change, is_within, releases}
 use borrow.Author.Rules.{rules}
 use Rattle.machine_take.proofs.taking.take_codes.Statement.{statement}
 use Rattle.machine_take.proofs.taking.take_codes.Tie as tie
 use Rattle.machine_take.proofs.taking.take_codes.Proof.Arms as arms
 use Rattle.machine_take.proofs.taking.take_codes.Proof.Bounds as bounds
-use Rattle.machine_take.proofs.taking.take_codes.Proof.Turn.{Inv-loop2, μ-loop2, Inv-loop3, μ-loop3, Inv-loop4, μ-loop4, Inv-loop, μ-loop, known, read}
-
-loop-holds : tie.Need-loop-place-init Inv-loop2 μ-loop2 Inv-loop3 μ-loop3 Inv-loop4 μ-loop4 Inv-loop μ-loop
-loop-holds c =
-    let m = c.args.m in
-    let rows = c.well_formed.0.1.1.1 in (
-      begins _ _ _ (view m) _
-          (whole m (search rules) (search rules) (search rules) (search rules)),
-      refl,
-      refl,
-    )
-
-loop2-holds : tie.Need-loop-i-init Inv-loop2 μ-loop2 Inv-loop3 μ-loop3 Inv-loop4 μ-loop4 Inv-loop μ-loop
-loop2-holds c = (search rules, giving_none)
-
-loop2-again : tie.Need-loop-i-preserved-then-not-register_waits Inv-loop2 μ-loop2 Inv-loop3 μ-loop3 Inv-loop4 μ-loop4 Inv-loop μ-loop
-loop2-again c = (omega arith, register_kept (record { operand = Number nan }) c.loop-i.invariant.1 (sym c.register_waits.ensures ∙ c.if-not-register_waits.true))
-
-loop2-again-2 : tie.Need-loop-i-preserved Inv-loop2 μ-loop2 Inv-loop3 μ-loop3 Inv-loop4 μ-loop4 Inv-loop μ-loop
-loop2-again-2 c = (omega arith, register-given (record { operand = Number nan }) c.loop-i.invariant.1 c.given_register.result c.given_register.ensures)
-
-loop3-holds : tie.Need-loop-i-2-init Inv-loop2 μ-loop2 Inv-loop3 μ-loop3 Inv-loop4 μ-loop4 Inv-loop μ-loop
-loop3-holds c = (search rules, giving_none)
-
-loop3-again : tie.Need-loop-i-2-preserved-then-not-station_waits Inv-loop2 μ-loop2 Inv-loop3 μ-loop3 Inv-loop4 μ-loop4 Inv-loop μ-loop
-loop3-again c = (omega arith, station_kept (record { state = station.Free }) c.loop-i-2.invariant.1 (sym c.station_waits.ensures ∙ c.if-not-station_waits.true))
-
-loop3-again-2 : tie.Need-loop-i-2-preserved Inv-loop2 μ-loop2 Inv-loop3 μ-loop3 Inv-loop4 μ-loop4 Inv-loop μ-loop
-loop3-again-2 c = (omega arith, station_given (record { state = station.Free }) c.loop-i-2.invariant.1 c.given_station.result c.given_station.ensures)
-
-loop4-holds : tie.Need-loop-i-3-init Inv-loop2 μ-loop2 Inv-loop3 μ-loop3 Inv-loop4 μ-loop4 Inv-loop μ-loop
-loop4-holds c = (search rules, giving_none)
-
-loop4-again : tie.Need-loop-i-3-preserved-then-not-store_waits Inv-loop2 μ-loop2 Inv-loop3 μ-loop3 Inv-loop4 μ-loop4 Inv-loop μ-loop
-loop4-again c = (omega arith, store_kept (record { state = store.Free }) c.loop-i-3.invariant.1 (sym c.store_waits.ensures ∙ c.if-not-store_waits.true))
-
-loop4-again-2 : tie.Need-loop-i-3-preserved Inv-loop2 μ-loop2 Inv-loop3 μ-loop3 Inv-loop4 μ-loop4 Inv-loop μ-loop
-loop4-again-2 c = (omega arith, store_given (record { state = store.Free }) c.loop-i-3.invariant.1 c.given_store.result c.given_store.ensures)
-
-returns : tie.Need-returns-after-loop-place Inv-loop2 μ-loop2 Inv-loop3 μ-loop3 Inv-loop4 μ-loop4 Inv-loop μ-loop
-returns c = let l = c.loop-place.invariant in rw (l.1, l.2) (at_end _ _ _ _ l.0 c.loop-place-test.false)
-
-returns-2 : tie.Need-returns-in-Refused Inv-loop2 μ-loop2 Inv-loop3 μ-loop3 Inv-loop4 μ-loop4 Inv-loop μ-loop
-returns-2 c =
-    let l = c.loop-place.invariant in
-    rw l.2
-    (number_stops _ _ _ _ l.0 c.loop-place-test.true (sym c.number_at.ensures ∙ ap told c.in-Refused.is))
-
-returns-3 : tie.Need-returns-in-Refused-change Inv-loop2 μ-loop2 Inv-loop3 μ-loop3 Inv-loop4 μ-loop4 Inv-loop μ-loop
-returns-3 c =
-    let is = c.in-Refused-change.is in
-    let l = c.loop-place.invariant in
-    rw l.2
-    (step_stops _ _ _ _ l.0 c.loop-place-test.true (read c.before.before.before) (is_within (known c.before) is) (is_change (known c.before) is))
-
-returns-4 : tie.Need-returns-then-not-room Inv-loop2 μ-loop2 Inv-loop3 μ-loop3 Inv-loop4 μ-loop4 Inv-loop μ-loop
-returns-4 c =
-    let is = c.in-Releases.is in
-    let l = c.loop-place.invariant in
-    rw l.2
-    (full_stops _ _ _ _ l.0 c.loop-place-test.true (read c.before.before.before.before) (is_change (known c.before.before) is) (c.if-not-room.true))
-
-returns-5 : tie.Need-returns-else-not-room Inv-loop2 μ-loop2 Inv-loop3 μ-loop3 Inv-loop4 μ-loop4 Inv-loop μ-loop
-returns-5 c =
-    let is = c.in-Releases.is in
-    let l = c.loop-place.invariant in
-    rw l.1
-    (release_stops _ _ _ _ l.0
-    c.loop-place-test.true
-    (read c.before.before.before.before.before)
-    (releases (known c.before.before.before) is c.free_store.result c.free_store.ensures)
-    (c.if-not-room.false))
+use Rattle.machine_take.proofs.taking.take_codes.Proof.Turn.{Inv-loop2, μ-loop2, Inv-loop3, μ-loop3, Inv-loop4, μ-loop4, Inv-loop, μ-loop}
+use Rattle.machine_take.proofs.taking.take_codes.Proof.Ends as ends
+use Rattle.machine_take.proofs.taking.take_codes.Proof.Given as given
 
 pub take_codes_spec : {M : Type 1} → statement M
 take_codes_spec =
@@ -106,7 +26,7 @@ take_codes_spec =
     μ-loop4
     Inv-loop
     μ-loop
-    loop-holds
+    given.loop-holds
     (λ c κs. search rules)
     (λ c. search rules)
     (λ c. search rules)
@@ -205,45 +125,45 @@ take_codes_spec =
     (λ c. search rules)
     (λ c. search rules)
     bounds.element-set-from-n-11
-    loop2-holds
+    given.loop2-holds
     (λ c. search rules)
     (λ c. search rules)
     (λ c κs. search rules)
     (λ c. search rules)
     (λ c. search rules)
-    loop2-again
+    given.loop2-again
     (λ c κs. search rules)
     (λ c. search rules)
     (λ c. search rules)
     (λ c. search rules)
     (λ c. search rules)
-    loop2-again-2
-    loop3-holds
+    given.loop2-again-2
+    given.loop3-holds
     (λ c. search rules)
     (λ c. search rules)
     (λ c κs. search rules)
     (λ c. search rules)
     (λ c. search rules)
-    loop3-again
+    given.loop3-again
     (λ c κs. search rules)
     (λ c. search rules)
     (λ c. search rules)
     (λ c. search rules)
     (λ c. search rules)
-    loop3-again-2
-    loop4-holds
+    given.loop3-again-2
+    given.loop4-holds
     (λ c. search rules)
     (λ c. search rules)
     (λ c κs. search rules)
     (λ c. search rules)
     (λ c. search rules)
-    loop4-again
+    given.loop4-again
     (λ c κs. search rules)
     (λ c. search rules)
     (λ c. search rules)
     (λ c. search rules)
     (λ c. search rules)
-    loop4-again-2
+    given.loop4-again-2
     (λ c. search rules)
     (λ c κs. search rules)
     bounds.mul-t184
@@ -264,8 +184,8 @@ take_codes_spec =
     arms.loop-again-7
     arms.loop-less-8
     arms.loop-again-8
-    returns
-    returns-2
-    returns-3
-    returns-4
-    returns-5)
+    ends.returns
+    ends.returns-2
+    ends.returns-3
+    ends.returns-4
+    ends.returns-5)
