@@ -13,9 +13,9 @@ use Rattle.machine_parts.specs.declared.StationState.TheVariants as station
 use Rattle.machine_parts.specs.declared.StoreState.TheVariants as store
 use Rattle.seven_bit.specs.Told.{told}
 use Rattle.machine_parts.proofs.Whole.{whole}
-use Rattle.machine_take.proofs.Takes.{begins, at_end, number_stops, step_stops, full_stops, release_stops}
-use Rattle.machine_bus.proofs.Given.{giving_none, register-given, register_kept, station_given, station_kept, store_given, store_kept}
-use Rattle.machine_take.proofs.Arms.{is_change, is_within, releases}
+use Rattle.machine_take.proofs.Takes.{begins, at_end, number_stops, step_stops}
+use Rattle.machine_bus.proofs.Given.{giving_none, register-given, register_kept, station_given, station_kept, store_given}
+use Rattle.machine_take.proofs.Arms.{is_change, is_within}
 use borrow.Author.Rules.{rules}
 use Rattle.machine_take.proofs.taking.take_codes.Statement.{statement}
 use Rattle.machine_take.proofs.taking.take_codes.Tie as tie
@@ -54,9 +54,6 @@ loop3-again-2 c = (omega arith, station_given (record { state = station.Free }) 
 loop4-holds : tie.Need-loop-i-3-init Inv-loop2 μ-loop2 Inv-loop3 μ-loop3 Inv-loop4 μ-loop4 Inv-loop μ-loop
 loop4-holds c = (search rules, giving_none)
 
-loop4-again : tie.Need-loop-i-3-preserved-then-not-store_waits Inv-loop2 μ-loop2 Inv-loop3 μ-loop3 Inv-loop4 μ-loop4 Inv-loop μ-loop
-loop4-again c = (omega arith, store_kept (record { state = store.Free }) c.loop-i-3.invariant.1 (sym c.store_waits.ensures ∙ c.if-not-store_waits.true))
-
 loop4-again-2 : tie.Need-loop-i-3-preserved Inv-loop2 μ-loop2 Inv-loop3 μ-loop3 Inv-loop4 μ-loop4 Inv-loop μ-loop
 loop4-again-2 c = (omega arith, store_given (record { state = store.Free }) c.loop-i-3.invariant.1 c.given_store.result c.given_store.ensures)
 
@@ -75,24 +72,6 @@ returns-3 c =
     let l = c.loop-place.invariant in
     rw l.2
     (step_stops _ _ _ _ l.0 c.loop-place-test.true (read c.before.before.before) (is_within (known c.before) is) (is_change (known c.before) is))
-
-returns-4 : tie.Need-returns-then-not-room Inv-loop2 μ-loop2 Inv-loop3 μ-loop3 Inv-loop4 μ-loop4 Inv-loop μ-loop
-returns-4 c =
-    let is = c.in-Releases.is in
-    let l = c.loop-place.invariant in
-    rw l.2
-    (full_stops _ _ _ _ l.0 c.loop-place-test.true (read c.before.before.before.before) (is_change (known c.before.before) is) (c.if-not-room.true))
-
-returns-5 : tie.Need-returns-else-not-room Inv-loop2 μ-loop2 Inv-loop3 μ-loop3 Inv-loop4 μ-loop4 Inv-loop μ-loop
-returns-5 c =
-    let is = c.in-Releases.is in
-    let l = c.loop-place.invariant in
-    rw l.1
-    (release_stops _ _ _ _ l.0
-    c.loop-place-test.true
-    (read c.before.before.before.before.before)
-    (releases (known c.before.before.before) is c.free_store.result c.free_store.ensures)
-    (c.if-not-room.false))
 
 pub take_codes_spec : {M : Type 1} → statement M
 take_codes_spec =
@@ -174,7 +153,7 @@ take_codes_spec =
     bounds.element-copy-out-source
     bounds.of-station-requires-2
     bounds.waiting-register-requires-4
-    (λ c κs. search rules)
+    bounds.holding-requires-2
     bounds.mul-t118
     bounds.element-set-from-n-6
     bounds.mul-waits
@@ -237,7 +216,7 @@ take_codes_spec =
     (λ c κs. search rules)
     (λ c. search rules)
     (λ c. search rules)
-    loop4-again
+    arms.loop4-again
     (λ c κs. search rules)
     (λ c. search rules)
     (λ c. search rules)
@@ -267,5 +246,5 @@ take_codes_spec =
     returns
     returns-2
     returns-3
-    returns-4
-    returns-5)
+    arms.returns-4
+    arms.returns-5)

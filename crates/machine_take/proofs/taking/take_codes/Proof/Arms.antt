@@ -1,11 +1,15 @@
 -- `take_codes`, turn by turn: what each arm stores is what the step does, and the schedule has been read further.
-use mathlib.Core.Path.{ap, ◌∙◌}
+use mathlib.Core.Path.{sym, ap, ◌∙◌}
 use native.Mathlib.Omega.{arith}
+use borrow.Author.Rules.{rules}
 use Rattle.theory_machine.specs.Machine.{tag}
+use Rattle.machine_parts.specs.declared.StoreState.TheVariants as store
+use Rattle.machine_bus.proofs.Given.{store_kept}
+use Rattle.machine_take.proofs.Takes.{full_stops, release_stops}
 use Rattle.machine_take.proofs.Changing.{buffer_tagged, station_tagged}
-use Rattle.machine_take.proofs.Arms.{is_within, loads, takes_cell, copies, takes_register_lem, stores, arrives, completes}
+use Rattle.machine_take.proofs.Arms.{is_change, is_within, releases, loads, takes_cell, copies, takes_register_lem, stores, arrives, completes}
 use Rattle.machine_take.proofs.taking.take_codes.Tie as tie
-use Rattle.machine_take.proofs.taking.take_codes.Proof.Turn.{Inv-loop2, μ-loop2, Inv-loop3, μ-loop3, Inv-loop4, μ-loop4, Inv-loop, μ-loop, known, onward, four, on, granted-on}
+use Rattle.machine_take.proofs.taking.take_codes.Proof.Turn.{Inv-loop2, μ-loop2, Inv-loop3, μ-loop3, Inv-loop4, μ-loop4, Inv-loop, μ-loop, known, read, onward, four, on, granted-on}
 
 -- in each: `turn` is where the change has been found out, `arm` is where its own names are known, and `is` says which change it is
 pub loop-less : tie.Need-loop-place-smaller-in-Loads Inv-loop2 μ-loop2 Inv-loop3 μ-loop3 Inv-loop4 μ-loop4 Inv-loop μ-loop
@@ -86,3 +90,24 @@ loop-less-8 c = omega (arith, onward c.before.before.before.before.before.before
 
 pub loop-again-8 : tie.Need-loop-place-preserved Inv-loop2 μ-loop2 Inv-loop3 μ-loop3 Inv-loop4 μ-loop4 Inv-loop μ-loop
 loop-again-8 c = on c.before.before.before.before.before.before.before.before (granted-on c)
+
+pub loop4-again : tie.Need-loop-i-3-preserved-then-not-store_waits Inv-loop2 μ-loop2 Inv-loop3 μ-loop3 Inv-loop4 μ-loop4 Inv-loop μ-loop
+loop4-again c = (omega arith, store_kept (record { state = store.Free }) c.loop-i-3.invariant.1 (sym c.store_waits.ensures ∙ c.if-not-store_waits.true))
+
+pub returns-4 : tie.Need-returns-then-not-room Inv-loop2 μ-loop2 Inv-loop3 μ-loop3 Inv-loop4 μ-loop4 Inv-loop μ-loop
+returns-4 c =
+    let is = c.in-Releases.is in
+    let l = c.loop-place.invariant in
+    rw l.2
+    (full_stops _ _ _ _ l.0 c.loop-place-test.true (read c.before.before.before.before) (is_change (known c.before.before) is) (c.if-not-room.true))
+
+pub returns-5 : tie.Need-returns-else-not-room Inv-loop2 μ-loop2 Inv-loop3 μ-loop3 Inv-loop4 μ-loop4 Inv-loop μ-loop
+returns-5 c =
+    let is = c.in-Releases.is in
+    let l = c.loop-place.invariant in
+    rw l.1
+    (release_stops _ _ _ _ l.0
+    c.loop-place-test.true
+    (read c.before.before.before.before.before)
+    (releases (known c.before.before.before) is c.free_store.result c.free_store.ensures)
+    (c.if-not-room.false))

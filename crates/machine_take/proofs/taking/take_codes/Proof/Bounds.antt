@@ -134,6 +134,9 @@ of-station-requires-2 c κs = search rules
 pub waiting-register-requires-4 : tie.Need-waiting_register-waits-requires Inv-loop2 μ-loop2 Inv-loop3 μ-loop3 Inv-loop4 μ-loop4 Inv-loop μ-loop
 waiting-register-requires-4 c κs = search rules
 
+pub holding-requires-2 : tie.Need-holding-requires-in-TakesRegister Inv-loop2 μ-loop2 Inv-loop3 μ-loop3 Inv-loop4 μ-loop4 Inv-loop μ-loop
+holding-requires-2 c κs = search rules
+
 pub mul-waits : tie.Need-offset_bounds-n-r1-in-TakesRegister-2 Inv-loop2 μ-loop2 Inv-loop3 μ-loop3 Inv-loop4 μ-loop4 Inv-loop μ-loop
 mul-waits c = omega (arith, (is_within (known c.before.before.before.before.before.before) c.in-TakesRegister.is).0)
 
