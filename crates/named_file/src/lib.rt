@@ -1,4 +1,5 @@
-// A file that an argument of the program names. What a file holds stands in no contract: only that what is read fits the lent bytes.
+// A file that an argument of the program names. What it holds stands in no contract: of a named file only that what is read fits the lent bytes, and of a reader
+// whose bytes are known which of them were read.
 #![tactic(auto)]
 
 ghost use Rattle.std.specs.Prelude.{◌≡◌, ◌≤◌, true, false, length, take, IfSome};
