@@ -3,9 +3,11 @@
 
 A definition or a lemma is in snake case. A dash stays only between two names, as in length-drop; a plain word hangs on by an underscore. The names are those that are
 declared in specs/ and proofs/*.antt; names that Rattle makes, names of src/, the standard library's and those inside a function's own proof (proofs/F/) stay.
-It turns crates/*/{src,specs,proofs,must-fail}, README.md and docs/. With --list it prints the table, old and new, and writes nothing.
+It turns crates/*/{src,specs,proofs,must-fail}, README.md and docs/. With --list it prints the table, old and new, and writes nothing. It takes no other
+argument, and stops where docs/PORT.md says that the port has begun: names that it has made would be taken for old ones.
 """
 import glob
+import os
 import re
 import sys
 
@@ -112,6 +114,10 @@ def turn(text, rows):
 
 
 def main():
+    if sys.argv[1:] not in ([], ["--list"]):
+        sys.exit(__doc__)
+    if os.path.exists("docs/PORT.md"):
+        sys.exit("respell: docs/PORT.md is there, so this has run")
     rows = table()
     if "--list" in sys.argv:
         for f, old, new in meets(rows):

@@ -3,9 +3,5 @@ use native.Mathlib.Omega.{arith}
 use lib.Bits.{and_mask, or_shifted_r}
 use Rattle.seven_bit.proofs.following.Goals as goal
 
--- LOST overflow-cast-result
--- cast-result : tie.Need-overflow-cast-result
--- cast-result c = rw (and_mask c.args.value 7, or_shifted_r 1 7 (c.args.value % 128) (omega arith)) (omega arith)
-
 pub returns : goal.returns
 returns c = rw (and_mask c.args.value 7, or_shifted_r 1 7 (c.args.value % 128) (omega arith))
