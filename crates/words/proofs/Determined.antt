@@ -5,6 +5,8 @@ use Rattle.words.proofs.check_list.Kinds as check-list-kinds
 use Rattle.words.proofs.check_list.Reads as check-list-reads
 use Rattle.words.proofs.check_list_against.Kinds as check-list-against-kinds
 use Rattle.words.proofs.check_list_against.Reads as check-list-against-reads
+use Rattle.words.proofs.refusal.placed.Kinds as placed-kinds
+use Rattle.words.proofs.refusal.placed.Reads as placed-reads
 use Rattle.words.proofs.refusal.Refusal.at.Kinds as at-kinds
 use Rattle.words.proofs.refusal.Refusal.at.Reads as at-reads
 use Rattle.words.proofs.form_of.Kinds as form-of-kinds
@@ -56,3 +58,6 @@ check_list_determined κs a x y s t = λ p q. verdict_exact x y (one_answer p q)
 
 pub refusal_at_determined : Determines 0 at-kinds.ps at-kinds.r at-reads.Post
 refusal_at_determined κs a x y s t = one_answer
+
+pub placed_determined : Determines 0 placed-kinds.ps placed-kinds.r placed-reads.Post
+placed_determined κs a x y s t = one_answer

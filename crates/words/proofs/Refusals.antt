@@ -10,7 +10,7 @@ use Rattle.words.specs.declared.refusal.Refusal.{Refusal}
 use Rattle.words.specs.declared.refusal.Refusal.TheVariants.{List, Operation, Register, Cell, Code, Order, NotNow, Cut, Number, Left, Room}
 use Rattle.words.specs.declared.refusal.Refused.{Refused}
 use Rattle.words.specs.Check.{Verdict}
-use Rattle.words.specs.Refusals.{number, answer_number, verdict}
+use Rattle.words.specs.Refusals.{number, answer_number, verdict, placed}
 
 -- the way back
 abbrev refusal_of : ℕ → Refusal
@@ -68,6 +68,16 @@ accepted_number (Ok x) t = refl
 accepted_number (Err r) t = absurd (true≢false t)
 
 -- `?` hands a refusal on as it is
-pub passed_on : {A : Type 0} (a : Result A Refusal) (r : Refusal) → IsErrAnd a (λ e. e ≡ r) → answer_number a ≡ number r
-passed_on (Ok x) r h = absurd h
-passed_on (Err e) r h = ap number h
+pub handed_on : {A E : Type 0} (a : Result A E) (e : E) → IsErrAnd a (λ x. x ≡ e) → a ≡ Err e
+handed_on (Ok x) e h = absurd h
+handed_on (Err x) e h = ap Err h
+
+-- what it means that an answer came out refused or accepted where it got its place
+pub placed_err : (a : Result Unit Refusal) (place : ℕ) {e : Refused} → Err e ≡ placed a place
+    → (number e.refusal ≡ answer_number a) × (e.place ≡ place)
+placed_err (Ok u) place q = cc
+placed_err (Err r) place q = let k : _ ≡ record { refusal = r; place = place } = cc in (ap (λ (x : Refused). number x.refusal) k, ap (λ (x : Refused). x.place) k)
+
+pub placed_ok : (a : Result Unit Refusal) (place : ℕ) {u : Unit} → Ok u ≡ placed a place → 0 ≡ answer_number a
+placed_ok (Ok u) place q = refl
+placed_ok (Err r) place q = cc

@@ -26,3 +26,7 @@ answer_number (Err r) = number r
 abbrev pub verdict : Result ℕ Refused → Verdict
 verdict (Ok place) = record { refusal = 0; place = place }
 verdict (Err r) = record { refusal = number r.refusal; place = r.place }
+
+abbrev pub placed : Result Unit Refusal → (place : ℕ) → Result Unit Refused
+placed (Ok u) place = Ok u
+placed (Err r) place = Err (record { refusal = r; place = place })

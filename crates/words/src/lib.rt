@@ -7,7 +7,7 @@ ghost use Rattle.words.specs.Operands.{held_refusal};
 ghost use Rattle.words.specs.Check.{operation_refusal, register_refusal, operand_refusal, word_refusal, list_check, list_check_alone};
 ghost use Rattle.words.specs.Refusals.{answer_number, verdict};
 
-use crate::refusal::{Refusal, Refused};
+use crate::refusal::{Refusal, Refused, placed};
 use numbers::Operation;
 
 pub mod refusal;
@@ -162,9 +162,7 @@ pub fn check_list_against(words: &[u32], areas: Areas) -> Result<usize, Refused>
         return Err(Refusal::List.at(LIST_LIMIT));
     }
     for (place, word) in words.iter().enumerate() {
-        if let Err(refusal) = word_refusal(*word, areas) {
-            return Err(refusal.at(place));
-        }
+        placed(word_refusal(*word, areas), place)?;
     }
     Ok(words.len())
 }

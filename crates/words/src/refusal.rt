@@ -1,6 +1,6 @@
 // 01's refusals, and their numbers.
 ghost use Rattle.std.specs.Prelude.{◌≡◌};
-ghost use Rattle.words.specs.Refusals.{number, answer_number};
+ghost use Rattle.words.specs.Refusals.{number, answer_number, placed};
 
 #[derive(Clone, Copy, Debug, PartialEq, Eq)]
 pub enum Refusal {
@@ -63,6 +63,16 @@ impl Refusal {
             refusal: self,
             place,
         }
+    }
+}
+
+// An answer, its refusal with a place.
+pub fn placed(answer: Result<(), Refusal>, place: usize) -> Result<(), Refused>
+    ensures { result ≡ placed answer place }
+{
+    match answer {
+        Ok(()) => Ok(()),
+        Err(refusal) => Err(refusal.at(place)),
     }
 }
 
