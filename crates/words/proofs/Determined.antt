@@ -5,6 +5,8 @@ use Rattle.words.proofs.check_list.Kinds as check-list-kinds
 use Rattle.words.proofs.check_list.Reads as check-list-reads
 use Rattle.words.proofs.check_list_against.Kinds as check-list-against-kinds
 use Rattle.words.proofs.check_list_against.Reads as check-list-against-reads
+use Rattle.words.proofs.Areas.of.Kinds as of-kinds
+use Rattle.words.proofs.Areas.of.Reads as of-reads
 use Rattle.words.proofs.refusal.placed.Kinds as placed-kinds
 use Rattle.words.proofs.refusal.placed.Reads as placed-reads
 use Rattle.words.proofs.refusal.Refusal.at.Kinds as at-kinds
@@ -61,3 +63,6 @@ refusal_at_determined κs a x y s t = one_answer
 
 pub placed_determined : Determines 0 placed-kinds.ps placed-kinds.r placed-reads.Post
 placed_determined κs a x y s t = one_answer
+
+pub areas_of_determined : Determines 2 of-kinds.ps of-kinds.r of-reads.Post
+areas_of_determined κs a x y s t = one_answer

@@ -1,7 +1,7 @@
 // Words and lists of document 01: fields, the instruction table, and the check of a word and of a list.
 #![tactic(auto)]
 
-ghost use Rattle.std.specs.Prelude.{◌≡◌, cond};
+ghost use Rattle.std.specs.Prelude.{◌≡◌, cond, length};
 ghost use Rattle.words.specs.Instructions.{operation_field, r1_field, operand_field, form_of};
 ghost use Rattle.words.specs.Operands.{held_refusal};
 ghost use Rattle.words.specs.Check.{operation_refusal, register_refusal, operand_refusal, word_refusal, list_check, list_check_alone};
@@ -22,6 +22,17 @@ pub const CELL_LIMIT: usize = 256;
 pub struct Areas {
     pub operands: usize,
     pub results: usize,
+}
+
+impl Areas {
+    pub fn of(operands: &[f64], results: &[f64]) -> Areas
+        ensures { result ≡ record { operands = length operands.now; results = length results.now } }
+    {
+        Areas {
+            operands: operands.len(),
+            results: results.len(),
+        }
+    }
 }
 
 // Without areas only the cell limit speaks.

@@ -55,6 +55,15 @@ pub struct Refused {
     pub place: usize,
 }
 
+// Where only the refusal counts, `?` lets go of its place.
+impl From<Refused> for Refusal {
+    ghost from_gives = { λ placed refusal. refusal ≡ placed.refusal };
+
+    fn from(refused: Refused) -> Refusal {
+        refused.refusal
+    }
+}
+
 impl Refusal {
     pub fn at(self, place: usize) -> Refused
         ensures { result ≡ record { refusal = self; place = place } }

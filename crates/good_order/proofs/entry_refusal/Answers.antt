@@ -1,5 +1,5 @@
 use mathlib.Core.Path.{◌≡◌, sym, ap, ◌∙◌}
-use Rattle.words.specs.declared.Verdict.{Verdict}
+use Rattle.words.specs.Check.{Verdict}
 use Rattle.theory_machine.specs.Binary64.{binary64}
 use Rattle.theory_machine.proofs.Checks.{by_list, by_order, both_pass}
 use Rattle.machine_parts.specs.View.{view}
