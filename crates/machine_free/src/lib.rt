@@ -1,8 +1,8 @@
 // "Issue, always using the lowest-numbered free one": the finders.
 #![tactic(auto)]
 
-ghost use Rattle.std.specs.Prelude.{◌≡◌, ◌&&◌, map, ◌<◌};
-ghost use Rattle.theory_machine.specs.Tags.{suits, station_count};
+ghost use Rattle.std.specs.Prelude.{◌≡◌, ◌&&◌, map};
+ghost use Rattle.theory_machine.specs.Tags.{suits};
 ghost use Rattle.theory_machine.specs.Machine.{is_free_station, store_cell};
 ghost use Rattle.theory_machine.specs.GoodOrder.{has_cell};
 ghost use Rattle.machine_parts.specs.View.{view_buffer, view_station, view_store};
@@ -19,7 +19,6 @@ pub fn lowest_buffer(bs: [Buffer; Tag::BUFFERS]) -> Option<usize>
 
 // A free station of the operation's kind.
 fn station_serves(s: Station, i: usize, o: Operation) -> bool
-    requires { i < station_count }
     ensures { result ≡ suits i o && is_free_station (view_station s) }
 {
     Tag::suits(i, o) && matches!(s.state, StationState::Free)
