@@ -19,28 +19,13 @@ use words::{Areas, check_list_against, refusal};
 pub fn in_good_order(m: Machine, words: &[u32], areas: Areas) -> bool
     ensures { result ≡ good_order binary64 words.now areas (view m) }
 {
-    let next = m.next;
-    let registers = m.registers;
-    let buffers = m.buffers;
-    let stations = m.stations;
-    let stores = m.stores;
-    if words.len() < next {
-        return false;
-    }
-    if !row_rules::buffers_good(buffers, next, areas.operands) {
-        return false;
-    }
-    let places = givers::giver_places(buffers, stations);
-    if !row_rules::stations_good(stations, next, &places) {
-        return false;
-    }
-    if !row_rules::registers_good(registers, &places) {
-        return false;
-    }
-    if !row_rules::stores_good(stores, next, areas.results, &places) {
-        return false;
-    }
-    row_rules::stores_apart(stores)
+    let places = givers::giver_places(m.buffers, m.stations);
+    m.next <= words.len()
+        && row_rules::buffers_good(m.buffers, m.next, areas.operands)
+        && row_rules::stations_good(m.stations, m.next, &places)
+        && row_rules::registers_good(m.registers, &places)
+        && row_rules::stores_good(m.stores, m.next, areas.results, &places)
+        && row_rules::stores_apart(m.stores)
 }
 
 // "check the list and then 6": what the steps left, the lowest step and a run are refused with, 0 for neither.

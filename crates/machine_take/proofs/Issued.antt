@@ -8,6 +8,7 @@ use native.Mathlib.Omega.{arith}
 use lib.Ieee.{Float, nan}
 use lib.ListN.{length, get_or, get_or-map, length-map}
 use borrow.Author.Tests.{le-leb, lt-leb, eq-eqb, ne_eqb}
+use Rattle.std.specs.Prelude as std
 use Rattle.numbers.specs.declared.Operation.{Operation}
 use Rattle.numbers.specs.Number.{number_of}
 use Rattle.words.specs.declared.Areas.{Areas}
@@ -26,7 +27,6 @@ use Rattle.machine_free.specs.Free.{view_free_slot, lowest_buffer_in, lowest_sta
 use Rattle.machine_take.specs.Changes.{changed, Within, instruction_for, RegistersIn, standing_slots, Issues, IssuesNext}
 use Rattle.machine_take.specs.declared.change.Change.{Change}
 use Rattle.machine_take.specs.declared.change.Change.TheVariants.{Refused, Loads, TakesCell, Copies, TakesRegister, Stores}
-use Rattle.machine_free.specs.declared.FreeSlot.{FreeSlot}
 use Rattle.machine_parts.specs.declared.Operand.TheVariants.{Number}
 use Rattle.machine_parts.specs.declared.Register.{Register}
 use Rattle.machine_parts.specs.declared.Buffer.{Buffer}
@@ -35,7 +35,7 @@ use Rattle.machine_parts.specs.declared.StoreBuffer.{StoreBuffer}
 use Rattle.machine_parts.proofs.Seen.{any_default}
 
 -- the answer of a finder, once it is known which
-pub told : {r f : FreeSlot} {o : Option ℕ} → view_free_slot r ≡ o → r ≡ f → o ≡ view_free_slot f
+pub told : {r f : std.Option ℕ} {o : Option ℕ} → view_free_slot r ≡ o → r ≡ f → o ≡ view_free_slot f
 told e q = sym e ∙ ap view_free_slot q
 
 -- a register is read within its row

@@ -3,7 +3,7 @@ ghost use Rattle.machine_parts.specs.View.{lent_with};
 ghost use Rattle.machine_take.specs.Changes.{instruction_for, RegistersIn, Issues, IssuesNext};
 
 use crate::change::{Change, not_now};
-use machine_free::{FreeSlot, cell_live, lowest_buffer, lowest_station, lowest_store};
+use machine_free::{cell_live, lowest_buffer, lowest_station, lowest_store};
 use machine_parts::{Buffer, Register, Station, StoreBuffer, Tag};
 use words::{Areas, Form, refusal};
 
@@ -23,28 +23,28 @@ fn slots_for(
     match form {
         Form::Unknown => Change::Refused(refusal::OPERATION),
         Form::LD => match lowest_buffer(bs) {
-            FreeSlot::Nothing => not_now(),
-            FreeSlot::At(b) => Change::Loads(r, cell, b),
+            None => not_now(),
+            Some(b) => Change::Loads(r, cell, b),
         },
         Form::LDR => Change::Copies(r, Register::index_of(operand)),
         Form::CellArithmetic(o) => match lowest_buffer(bs) {
-            FreeSlot::Nothing => not_now(),
-            FreeSlot::At(b) => match lowest_station(ss, o) {
-                FreeSlot::Nothing => not_now(),
-                FreeSlot::At(s) => Change::TakesCell(o, r, cell, b, s),
+            None => not_now(),
+            Some(b) => match lowest_station(ss, o) {
+                None => not_now(),
+                Some(s) => Change::TakesCell(o, r, cell, b, s),
             },
         },
         Form::RegisterArithmetic(o) => match lowest_station(ss, o) {
-            FreeSlot::Nothing => not_now(),
-            FreeSlot::At(s) => Change::TakesRegister(o, r, Register::index_of(operand), s),
+            None => not_now(),
+            Some(s) => Change::TakesRegister(o, r, Register::index_of(operand), s),
         },
         Form::STD => {
             if cell_live(ts, cell) {
                 return not_now();
             }
             match lowest_store(ts) {
-                FreeSlot::Nothing => not_now(),
-                FreeSlot::At(t) => Change::Stores(r, cell, t),
+                None => not_now(),
+                Some(t) => Change::Stores(r, cell, t),
             }
         }
     }

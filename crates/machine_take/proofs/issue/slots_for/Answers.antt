@@ -12,71 +12,71 @@ returns-in-Unknown c =
     let a = c.args in
     no_operation a.form a.r a.operand c.in-Unknown.is
 
-pub returns-in-Nothing : goal.returns-in-Nothing
-returns-in-Nothing c =
+pub returns-in-None : goal.returns-in-None
+returns-in-None c =
     let a = c.args in
     load_waits a.form a.r a.operand c.in-LD.is
-    (told c.lowest_buffer.ensures c.in-Nothing.is)
+    (told c.lowest_buffer.ensures c.in-None.is)
     c.not_now.ensures
 
-pub returns-in-At : goal.returns-in-At
-returns-in-At c =
+pub returns-in-Some : goal.returns-in-Some
+returns-in-Some c =
     let a = c.args in
     load_goes a.form a.r a.operand c.in-LD.is c.requires
-    (told c.lowest_buffer.ensures c.in-At.is)
+    (told c.lowest_buffer.ensures c.in-Some.is)
 
 pub returns-in-LDR : goal.returns-in-LDR
 returns-in-LDR c =
     let a = c.args in
     copy_goes a.form a.r a.operand c.in-LDR.is c.requires c.index_of.ensures
 
-pub returns-in-Nothing-lowest_buffer : goal.returns-in-Nothing-lowest_buffer
-returns-in-Nothing-lowest_buffer c =
+pub returns-in-None-lowest_buffer : goal.returns-in-None-lowest_buffer
+returns-in-None-lowest_buffer c =
     let a = c.args in
     cell-waits_buffer a.form a.r a.operand c.in-CellArithmetic.is
-    (told c.lowest_buffer-in-CellArithmetic.ensures c.in-Nothing-lowest_buffer.is)
-    c.not_now-in-Nothing-lowest_buffer.ensures
+    (told c.lowest_buffer-in-CellArithmetic.ensures c.in-None-lowest_buffer.is)
+    c.not_now-in-None-lowest_buffer.ensures
 
-pub returns-in-Nothing-lowest_station : goal.returns-in-Nothing-lowest_station
-returns-in-Nothing-lowest_station c =
+pub returns-in-None-lowest_station : goal.returns-in-None-lowest_station
+returns-in-None-lowest_station c =
     let a = c.args in
     cell-waits_station a.form a.r a.operand c.in-CellArithmetic.is
-    (told c.lowest_buffer-in-CellArithmetic.ensures c.in-At-lowest_buffer.is)
-    (told c.lowest_station.ensures c.in-Nothing-lowest_station.is)
-    c.not_now-in-Nothing-lowest_station.ensures
+    (told c.lowest_buffer-in-CellArithmetic.ensures c.in-Some-lowest_buffer.is)
+    (told c.lowest_station.ensures c.in-None-lowest_station.is)
+    c.not_now-in-None-lowest_station.ensures
 
-pub returns-in-At-lowest_station : goal.returns-in-At-lowest_station
-returns-in-At-lowest_station c =
+pub returns-in-Some-lowest_station : goal.returns-in-Some-lowest_station
+returns-in-Some-lowest_station c =
     let a = c.args in
     cell-goes a.form a.r a.operand c.in-CellArithmetic.is c.requires
-    (told c.lowest_buffer-in-CellArithmetic.ensures c.in-At-lowest_buffer.is)
-    (told c.lowest_station.ensures c.in-At-lowest_station.is)
+    (told c.lowest_buffer-in-CellArithmetic.ensures c.in-Some-lowest_buffer.is)
+    (told c.lowest_station.ensures c.in-Some-lowest_station.is)
 
-pub returns-in-Nothing-lowest_station-2 : goal.returns-in-Nothing-lowest_station-2
-returns-in-Nothing-lowest_station-2 c =
+pub returns-in-None-lowest_station-2 : goal.returns-in-None-lowest_station-2
+returns-in-None-lowest_station-2 c =
     let a = c.args in
     register-waits a.form a.r a.operand c.in-RegisterArithmetic.is
-    (told c.lowest_station-in-RegisterArithmetic.ensures c.in-Nothing-lowest_station-2.is)
-    c.not_now-in-Nothing-lowest_station-2.ensures
+    (told c.lowest_station-in-RegisterArithmetic.ensures c.in-None-lowest_station-2.is)
+    c.not_now-in-None-lowest_station-2.ensures
 
-pub returns-in-At-lowest_station-2 : goal.returns-in-At-lowest_station-2
-returns-in-At-lowest_station-2 c =
+pub returns-in-Some-lowest_station-2 : goal.returns-in-Some-lowest_station-2
+returns-in-Some-lowest_station-2 c =
     let a = c.args in
     register-goes a.form a.r a.operand c.in-RegisterArithmetic.is c.requires
-    (told c.lowest_station-in-RegisterArithmetic.ensures c.in-At-lowest_station-2.is)
-    c.index_of-in-At-lowest_station-2.ensures
+    (told c.lowest_station-in-RegisterArithmetic.ensures c.in-Some-lowest_station-2.is)
+    c.index_of-in-Some-lowest_station-2.ensures
 
-pub returns-in-Nothing-lowest_store : goal.returns-in-Nothing-lowest_store
-returns-in-Nothing-lowest_store c =
+pub returns-in-None-lowest_store : goal.returns-in-None-lowest_store
+returns-in-None-lowest_store c =
     let a = c.args in
     store_waits_lem a.form a.r a.operand c.in-STD.is
     (sym c.cell_live.ensures ∙ c.if-cell_live.false)
-    (told c.lowest_store.ensures c.in-Nothing-lowest_store.is)
-    c.not_now-in-Nothing-lowest_store.ensures
+    (told c.lowest_store.ensures c.in-None-lowest_store.is)
+    c.not_now-in-None-lowest_store.ensures
 
-pub returns-in-At-lowest_store : goal.returns-in-At-lowest_store
-returns-in-At-lowest_store c =
+pub returns-in-Some-lowest_store : goal.returns-in-Some-lowest_store
+returns-in-Some-lowest_store c =
     let a = c.args in
     store_goes a.form a.r a.operand c.in-STD.is c.requires
     (sym c.cell_live.ensures ∙ c.if-cell_live.false)
-    (told c.lowest_store.ensures c.in-At-lowest_store.is)
+    (told c.lowest_store.ensures c.in-Some-lowest_store.is)

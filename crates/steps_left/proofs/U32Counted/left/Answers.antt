@@ -1,5 +1,5 @@
 use Rattle.theory_machine.specs.Instruction.{decode}
-use Rattle.steps_left.proofs.word_left.Goals as goal
+use Rattle.steps_left.proofs.U32Counted.left.Goals as goal
 
 pub returns-in-Unknown : goal.returns-in-Unknown
 unfolding decode
