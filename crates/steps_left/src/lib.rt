@@ -14,14 +14,8 @@ ghost use Rattle.steps_left.specs.SlotsLeft.{SlotsLeft};
 
 use good_order::entry_refusal;
 use machine_parts::{Buffer, BufferState, Machine, Station, StationState, StoreBuffer, StoreState};
-use words::{Areas, Form, refusal};
-
-// The answer of a count: a refusal number of 01, 0 for accepted, and the steps left, 0 when refused.
-#[derive(Clone, Copy)]
-pub struct Left {
-    pub refusal: u32,
-    pub left: usize,
-}
+use words::refusal::Refusal;
+use words::{Areas, Form};
 
 // What steps are left of: a slot, or a word that is not issued.
 trait Counted {
@@ -99,27 +93,16 @@ fn slots_left(m: Machine) -> usize
 }
 
 // 01: the list is checked against its areas, then the machine.
-pub fn steps_left(m: Machine, words: &[u32], operands: &[f64], results: &[f64]) -> Left
+pub fn steps_left(
+    m: Machine,
+    words: &[u32],
+    operands: &[f64],
+    results: &[f64],
+) -> Result<usize, Refusal>
     ensures { view_left result ≡ steps_left binary64 (lent words.now operands.now results.now) (view m) }
 {
-    let refused = entry_refusal(
-        m,
-        words,
-        Areas {
-            operands: operands.len(),
-            results: results.len(),
-        },
-    );
-    if refused != refusal::ACCEPTED {
-        return Left {
-            refusal: refused,
-            left: 0,
-        };
-    }
-    Left {
-        refusal: refusal::ACCEPTED,
-        left: row_left(&words[m.next..]) + slots_left(m),
-    }
+    entry_refusal(m, words, Areas::of(operands, results))?;
+    Ok(row_left(&words[m.next..]) + slots_left(m))
 }
 
 // 01: the next place equals the length, and every buffer, station and store buffer is free.
