@@ -22,13 +22,11 @@ use Rattle.machine_parts.specs.declared.Record.{Record}
 use Rattle.machine_parts.specs.declared.Released.TheVariants.{Nothing, One}
 use Rattle.machine_parts.specs.View.{view, view_released, lent_with}
 use Rattle.machine_parts.proofs.Exact.{back}
-use Rattle.machine_steps.specs.declared.advance.Progress.{Progress}
-use Rattle.machine_steps.specs.declared.advance.Stop.{Stop}
 use Rattle.machine_take.specs.declared.taking.Taken as declared
 use Rattle.machine_take.specs.Taking as taking
 use Rattle.machine_take.specs.Taking.{Taken, view_taken, by_number, by_release, after_step, take_from}
 use Rattle.machine_take.proofs.Counted.{counted, counted_on, few-steps}
-use Rattle.machine_steps.specs.Advance.{run_refusal, beginning, stays, stop_of, taken_on, goes, advanced, cells_after}
+use Rattle.machine_steps.specs.Advance.{Progress, Stop, run_refusal, beginning, stays, stop_of, taken_on, goes, advanced, cells_after}
 
 pub begins_so : (m : Machine) (words : List ℕ) (operands : List Float) (results : ℕ) {n : ℕ} → n ≡ run_refusal m words operands results
     → record { machine = m; steps = 0; place = 0; refusal = n; records = 0; going = eqb n 0 } ≡ beginning m words operands results
