@@ -80,8 +80,8 @@ pub fn one_at_a_time(
         };
     }
     let mut registers = starts;
-    for place in 0..words.len() {
-        execute(words[place], &mut registers, operands, results);
+    for word in words {
+        execute(*word, &mut registers, operands, results);
     }
     OneAtATime {
         registers,
