@@ -15,7 +15,7 @@ use machine_parts::{Record, Register, Released};
 use machine_steps::lowest::Lowest;
 use machine_words::image::machine_in;
 use machine_words::layout::WORDS;
-use machine_words::row::{number_or_zero, put_number, put_words};
+use machine_words::row::{put, put_words, value_or};
 use machine_words::spelling::put_machine;
 use words::refusal;
 
@@ -63,10 +63,10 @@ fn starts_in(row: &[f64]) -> [f64; Register::COUNT]
     ensures { result ≡ starts_in row.now }
 {
     [
-        number_or_zero(row, 0),
-        number_or_zero(row, 1),
-        number_or_zero(row, 2),
-        number_or_zero(row, 3),
+        value_or(row, 0, 0.0),
+        value_or(row, 1, 0.0),
+        value_or(row, 2, 0.0),
+        value_or(row, 3, 0.0),
     ]
 }
 
@@ -233,9 +233,9 @@ pub extern "C" fn wethertide_one_at_a_time(
     let starts = starts_in(registers);
     let ran = one_at_a_time::one_at_a_time(words, operands, results, starts);
     let ends = ran.registers;
-    put_number(registers, 0, ends[0]);
-    put_number(registers, 1, ends[1]);
-    put_number(registers, 2, ends[2]);
-    put_number(registers, 3, ends[3]);
+    put(registers, 0, ends[0]);
+    put(registers, 1, ends[1]);
+    put(registers, 2, ends[2]);
+    put(registers, 3, ends[3]);
     ran.refusal
 }
