@@ -11,7 +11,7 @@ ghost use Rattle.theory_machine.specs.Instruction.{index_of};
 use numbers::Operation;
 
 // A tag: a buffer's or a station's number.
-#[derive(Clone, Copy)]
+#[derive(Clone, Copy, PartialEq, Eq)]
 pub struct Tag(pub u8);
 
 impl Tag {
