@@ -4,4 +4,5 @@
 
 mod change;
 mod issue;
+mod store;
 pub mod taking;
