@@ -1,9 +1,10 @@
 -- The change that each kind of step comes to.
 use mathlib.Core.Path.{◌≡◌, sym, ap, ◌∙◌}
 use Prim.Native.Nat.{ℕ}
+use native.Mathlib.Omega.{arith}
 use lib.Ieee.{Float}
 use lib.ListN.{get_or, get_or-map}
-use Rattle.std.specs.Prelude.{Result, Ok, Err}
+use Rattle.std.specs.Prelude.{Some, None, Result, Ok, Err}
 use Rattle.theory_machine.specs.Machine as theory
 use Rattle.theory_machine.specs.Machine.{Lent}
 use Rattle.theory_machine.specs.Binary64.{binary64}
@@ -16,24 +17,28 @@ use Rattle.machine_parts.specs.declared.StationState.TheVariants as station
 use Rattle.machine_parts.specs.declared.StoreState.TheVariants as store
 use Rattle.machine_slots.specs.declared.code.Step.{Step}
 use Rattle.machine_slots.specs.declared.code.Step.TheVariants as step
-use Rattle.machine_slots.specs.Slots.{view_step, ReadsAs}
+use Rattle.machine_slots.specs.Slots.{view_known, ReadsAs}
 use Rattle.machine_slots.proofs.Codes.{performed}
 use Rattle.machine_take.specs.declared.issue.Issue.{Issue}
 use Rattle.machine_take.specs.declared.change.Change.{Change}
 use Rattle.machine_take.specs.declared.change.Change.TheVariants.{Issues}
 use Rattle.machine_take.specs.Changes.{Makes, Changes, IssuesNext}
 
-module _ {L : Lent Float} {code : ℕ} {s r : Step} (read : ReadsAs code r) (e : r ≡ s) (m : Machine) where
-  pub found : {c : Result Change ℕ} {f : theory.Machine Float → Answer Float} → Makes c f → f (view m) ≡ perform_step binary64 L (view m) (view_step s)
-      → Changes L m code c
-  found h q = record { is = h.is (view m) ∙ q ∙ sym (performed read e L (view m)); within = h.within m.next }
+module _ {L : Lent Float} {code : ℕ} where
+  pub no_step : ReadsAs code None → (m : Machine) → Changes L m code (Err 5)
+  no_step read m = record { is = sym (performed read L (view m)); within = λ z. omega arith }
 
-module _ {L : Lent Float} {code : ℕ} {s : Step} (read : ReadsAs code s) (e : s ≡ step.Issue) (m : Machine) where
-  pub issue_refused : {number : ℕ} → IssuesNext m L (Err number) → Changes L m code (Err number)
-  issue_refused h = record { is = h.is ∙ sym (performed read e L (view m)); within = h.within }
+  module _ {s r : Step} (read : ReadsAs code (Some r)) (e : r ≡ s) (m : Machine) where
+    pub found : {c : Result Change ℕ} {f : theory.Machine Float → Answer Float} → Makes c f → f (view m) ≡ perform_step binary64 L (view m) (view_known s)
+        → Changes L m code c
+    found h q = record { is = h.is (view m) ∙ q ∙ rw e at (sym (performed read L (view m))); within = h.within m.next }
 
-  pub issue_found : {i : Issue} → IssuesNext m L (Ok i) → Changes L m code (Ok (Issues i))
-  issue_found h = record { is = h.is ∙ sym (performed read e L (view m)); within = h.within }
+  module _ {r : Step} (read : ReadsAs code (Some r)) (e : r ≡ step.Issue) (m : Machine) where
+    pub issue_refused : {number : ℕ} → IssuesNext m L (Err number) → Changes L m code (Err number)
+    issue_refused h = record { is = h.is ∙ rw e at (sym (performed read L (view m))); within = h.within }
+
+    pub issue_found : {i : Issue} → IssuesNext m L (Ok i) → Changes L m code (Ok (Issues i))
+    issue_found h = record { is = h.is ∙ rw e at (sym (performed read L (view m))); within = h.within }
 
 -- a slot of the machine, seen
 module _ {B : Type 0} (m : Machine) (i : ℕ) where

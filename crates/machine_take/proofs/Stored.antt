@@ -20,7 +20,7 @@ use Rattle.machine_parts.specs.TagOf.{tag_of_buffer, tag_of_station}
 use Rattle.machine_parts.specs.View.{view, view_register, view_station, view_store}
 use Rattle.machine_parts.specs.Back.{register_of, station_of, store_of}
 use Rattle.machine_parts.proofs.Exact.{operand_forth, station_forth, store_forth}
-use Rattle.machine_parts.proofs.Seen.{any_default}
+use Rattle.machine_parts.proofs.Seen.{map-set, any_default}
 use Rattle.machine_bus.specs.Bus.{given_register, given_station, given_store}
 
 -- a register is read within its row
@@ -54,3 +54,5 @@ rows_given m t v a b c = rw (
   row_seen view_station station_of station_forth (give_station t v) m.stations,
   row_seen view_store store_of store_forth (give_store t v) m.stores,
 )
+
+pub ruleset stored = (map-set, register-seen, buffer_tagged, station_tagged)

@@ -121,8 +121,10 @@ pub(crate) fn change_of(
 ) -> Result<Change, u32>
     ensures { Changes (lent_with words.now operands.now results) m.now code result }
 {
-    match step_of(code) {
-        Step::Unknown => Err(refusal::CODE),
+    let Some(step) = step_of(code) else {
+        return Err(refusal::CODE);
+    };
+    match step {
         Step::Issue => Ok(Change::Issues(next_issue(m, words, operands, results)?)),
         Step::Arrival(b) => arrival(b, m.buffers[b], operands),
         Step::Completion(u) => completion(u, m.stations[u]),

@@ -7,7 +7,7 @@ ghost use Rattle.machine_take.specs.Changes.{issued, InRows, changed, Within, do
 use crate::change::Change;
 use crate::issue::Issue;
 use machine_bus::give;
-use machine_parts::{Machine, Released, Tag};
+use machine_parts::{BufferState, Machine, Operand, Released, StationState, StoreState, Tag};
 use machine_slots::made;
 
 // "every register, station and store operand with that tag takes the number"
@@ -20,6 +20,7 @@ fn grant(m: &mut Machine, tag: Tag, number: f64)
 }
 
 // "next place grows by one"
+#[tactic(auto, using(crate::proofs::Stored::stored))]
 fn store_issue(m: &mut Machine, issue: Issue)
     requires next { m.old.next + 1 < 2 ^ 64 }
     requires slots { InRows issue }
@@ -29,46 +30,49 @@ fn store_issue(m: &mut Machine, issue: Issue)
     m.next = place + 1;
     match issue {
         Issue::Loads(r, cell, b) => {
-            m.registers[r] = made::waiting_register(Tag::of_buffer(b));
+            m.registers[r].operand = Operand::Waits(Tag::of_buffer(b));
             m.buffers[b] = made::fetching(place, cell);
         }
         Issue::TakesCell(o, r, cell, b, u) => {
-            let sink = m.registers[r];
-            let source = made::waiting_register(Tag::of_buffer(b));
+            let sink = m.registers[r].operand;
+            let source = Operand::Waits(Tag::of_buffer(b));
             m.stations[u] = made::holding(place, o, sink, source);
-            m.registers[r] = made::waiting_register(Tag::of_station(u));
+            m.registers[r].operand = Operand::Waits(Tag::of_station(u));
             m.buffers[b] = made::fetching(place, cell);
         }
         Issue::Copies(r1, r2) => m.registers[r1] = m.registers[r2],
         Issue::TakesRegister(o, r1, r2, u) => {
-            let sink = m.registers[r1];
-            let source = m.registers[r2];
+            let sink = m.registers[r1].operand;
+            let source = m.registers[r2].operand;
             m.stations[u] = made::holding(place, o, sink, source);
-            m.registers[r1] = made::waiting_register(Tag::of_station(u));
+            m.registers[r1].operand = Operand::Waits(Tag::of_station(u));
         }
-        Issue::Stores(r, cell, t) => m.stores[t] = made::pending(place, cell, m.registers[r]),
+        Issue::Stores(r, cell, t) => {
+            m.stores[t] = made::pending(place, cell, m.registers[r].operand);
+        }
     }
 }
 
 // And what is released.
+#[tactic(auto, using(crate::proofs::Stored::stored))]
 pub(crate) fn store(m: &mut Machine, change: Change) -> Released
     requires { Within m.old.next change }
     ensures { done_with (view m.new) result ≡ changed (view m.old) change }
 {
     match change {
         Change::Issues(issue) => store_issue(m, issue),
-        Change::Arrives(b, fetched) => m.buffers[b] = made::full(fetched),
-        Change::Completes(u, worked) => m.stations[u] = made::done(worked),
+        Change::Arrives(b, fetched) => m.buffers[b].state = BufferState::Full(fetched),
+        Change::Completes(u, worked) => m.stations[u].state = StationState::Done(worked),
         Change::BufferGives(b, number) => {
-            m.buffers[b] = made::free_buffer();
+            m.buffers[b].state = BufferState::Free;
             grant(m, Tag::of_buffer(b), number);
         }
         Change::StationGives(u, number) => {
-            m.stations[u] = made::free_station();
+            m.stations[u].state = StationState::Free;
             grant(m, Tag::of_station(u), number);
         }
         Change::Releases(t, record) => {
-            m.stores[t] = made::free_store();
+            m.stores[t].state = StoreState::Free;
             return Released::One(record);
         }
     }

@@ -4,23 +4,14 @@ use Rattle.machine_parts.proofs.Seen.{map-set}
 use Rattle.machine_take.proofs.Stored.{buffer_tagged, station_tagged}
 use Rattle.machine_take.proofs.store.store.Goals as goal
 
-pub returns-in-Releases : goal.returns-in-Releases
-returns-in-Releases c = rw (c.in-Releases.is, map-set, c.free_store.ensures)
-
-pub returns-in-Arrives : goal.returns-in-Arrives
-returns-in-Arrives c = rw (c.in-Arrives.is, map-set, c.full.ensures)
-
-pub returns-in-Completes : goal.returns-in-Completes
-returns-in-Completes c = rw (c.in-Completes.is, map-set, c.done.ensures)
-
 pub returns-in-BufferGives : goal.returns-in-BufferGives
 returns-in-BufferGives c =
     let i = c.in-BufferGives in
     let h : i.b < buffer_count = rw i.is at c.requires in
-    rw (i.is, c.grant.ensures, buffer_tagged h c.of_buffer.ensures, map-set, c.free_buffer.ensures)
+    rw (i.is, c.grant.ensures, buffer_tagged h c.of_buffer.ensures, map-set)
 
 pub returns-in-StationGives : goal.returns-in-StationGives
 returns-in-StationGives c =
     let i = c.in-StationGives in
     let h : i.u < station_count = rw i.is at c.requires in
-    rw (i.is, c.grant-in-StationGives.ensures, station_tagged h c.of_station.ensures, map-set, map-set, c.free_station.ensures)
+    rw (i.is, c.grant-in-StationGives.ensures, station_tagged h c.of_station.ensures, map-set, map-set)
