@@ -1,5 +1,6 @@
 -- The contract of each public function determines its answer.
 use Rattle.numbers.proofs.Determined.{Determines, one_answer}
+use Rattle.words.proofs.Refusals.{answer_exact}
 use Rattle.good_order.proofs.entry_refusal.Kinds as entry-refusal-kinds
 use Rattle.good_order.proofs.entry_refusal.Reads as entry-refusal-reads
 use Rattle.good_order.proofs.good_order.Kinds as good-order-kinds
@@ -14,4 +15,4 @@ pub in_good_order_determined : Determines 1 in-good-order-kinds.ps in-good-order
 in_good_order_determined κs a x y s t = one_answer
 
 pub entry_refusal_determined : Determines 1 entry-refusal-kinds.ps entry-refusal-kinds.r entry-refusal-reads.Post
-entry_refusal_determined κs a x y s t = one_answer
+entry_refusal_determined κs a x y s t = λ p q. answer_exact x y (one_answer p q)

@@ -1,16 +1,16 @@
--- A loop over a row that stops at the first slot that fails its test.
+-- A row of which each slot passes its test.
 use mathlib.Core.Path.{◌≡◌, refl, sym, ap, ◌∙◌}
-use mathlib.Core.Bool.{Bool, true, false, not}
+use mathlib.Core.Bool.{Bool, true, false}
 use mathlib.Core.Logic.{⊎_elim}
 use mathlib.Core.List.{List, [], ◌∷◌, map}
-use Prim.Native.Nat.{ℕ, zero, suc, ◌+◌, ◌≤◌, ◌<◌}
+use Prim.Native.Nat.{ℕ, zero, suc, ◌<◌}
 use native.Mathlib.Nat.{not-suc-le-zero, le_of_suc-le-suc}
-use native.Mathlib.Numerals.{add-one}
 use native.Mathlib.Omega.{arith}
 use lib.ListN.{length, get_or}
-use borrow.Author.Tests.{not-true, not-false}
+use Rattle.std.specs.Bool.{MatchBool}
+use Rattle.std.specs.List.{AllWithin, HoldsAt}
 use Rattle.theory_machine.specs.Rows.{all_below}
-use Rattle.theory_machine.proofs.Rows.{bool_cases, and_i, absurd_bool, all_below-at}
+use Rattle.theory_machine.proofs.Rows.{bool_cases, absurd_bool, all_below-at, all_below_of}
 
 -- a slot of a row that is seen through f; the defaults do not count
 pub viewed : {A B : Type 0} (f : A → B) (l : List A) (i : ℕ) (a : A) (b : B) → i < length l → get_or (map f l) i b ≡ f (get_or l i a)
@@ -22,24 +22,17 @@ viewed f (x ∷ l) (suc i) a b h = viewed f l i a b (le_of_suc-le-suc h)
 fails : (n : ℕ) (p : ℕ → Bool) (i : ℕ) → i < n → p i ≡ false → all_below n p ≡ false
 fails n p i h e = ⊎_elim (λ (t : all_below n p ≡ true). absurd_bool (all_below-at n p t i h) e) (λ (t : all_below n p ≡ false). t) (bool_cases (all_below n p))
 
--- the first i of the n slots of l pass the test q
-pub record Passed {A B : Type 0} (f : A → B) (d : B) (n : ℕ) (q : ℕ → B → Bool) (l : List A) (i : ℕ) : Type 0 where
-  pub within : i ≤ n
-  pub passed : all_below i (λ k. q k (get_or (map f l) k d)) ≡ true
+-- the items of all pass the test exactly where the n slots pass p
+pub row_passes : {X : Type 0} (test : X → Bool) (x : X) (all : List X) (n : ℕ) (p : ℕ → Bool) → length all ≡ n
+    → ((i : ℕ) → i < n → p i ≡ test (get_or all i x)) → (r : Bool)
+    → MatchBool r (AllWithin (λ y. test y ≡ true) all 0 (length all)) ((k : ℕ) × (k < length all) × HoldsAt (λ y. test y ≡ false) all k)
+    → r ≡ all_below n p
+row_passes test x all n p l e true h = sym (all_below_of n p (λ i z. e i z ∙ h i x (omega arith) (omega arith)))
+row_passes test x all n p l e false h = sym (fails n p h.0 (omega (arith, h.1)) (e h.0 (omega (arith, h.1)) ∙ h.2 x))
 
-module _ {A B : Type 0} {f : A → B} {d : B} {n : ℕ} {q : ℕ → B → Bool} {l : List A} where
-  pub passed_none : Passed f d n q l 0
-  passed_none = record { within = omega arith; passed = refl }
-
-  module _ {i : ℕ} (a : A) {r : Bool} (long : length l ≡ n) (s : Passed f d n q l i) (h : i < n) (e : r ≡ q i (f (get_or l i a))) where
-    slot : q i (get_or (map f l) i d) ≡ r
-    slot = ap (q i) (viewed f l i a d (omega arith)) ∙ sym e
-
-    pub passed_more : not r ≡ false → Passed f d n q l (i + 1)
-    passed_more t = record { within = omega arith; passed = rw (add-one i) (and_i (slot ∙ not-false r t) s.passed) }
-
-    pub passed_stop : not r ≡ true → false ≡ all_below n (λ k. q k (get_or (map f l) k d))
-    passed_stop t = sym (fails n (λ k. q k (get_or (map f l) k d)) i h (slot ∙ not-true r t))
-
-  pub passed_all : {i : ℕ} → Passed f d n q l i → n ≤ i → true ≡ all_below n (λ k. q k (get_or (map f l) k d))
-  passed_all {i} s h = let e : n ≡ i = omega (arith, s.within) in rw e (sym s.passed)
+-- a row that is seen through f
+pub row_seen : {A B : Type 0} (f : A → B) (test : B → Bool) (a : A) (d : B) (l : List A) (n : ℕ) → length l ≡ n → (r : Bool)
+    → MatchBool r (AllWithin (λ x. test (f x) ≡ true) l 0 (length l)) ((k : ℕ) × (k < length l) × HoldsAt (λ x. test (f x) ≡ false) l k)
+    → r ≡ all_below n (λ i. test (get_or (map f l) i d))
+row_seen f test a d l n e r h =
+    row_passes (λ x. test (f x)) a l n (λ i. test (get_or (map f l) i d)) e (λ i z. ap test (viewed f l i a d (omega arith))) r h

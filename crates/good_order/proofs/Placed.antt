@@ -3,10 +3,10 @@ use mathlib.Core.Path.{◌≡◌, refl}
 use mathlib.Core.Bool.{Bool, true, false, cond, not, ◌&&◌}
 use mathlib.Core.Logic.{⊎_elim}
 use mathlib.Core.List.{List, [], ◌∷◌, map}
-use Prim.Native.Nat.{ℕ, ◌≤◌, ◌<◌}
+use Prim.Native.Nat.{ℕ, zero, suc, ◌+◌, ◌≤◌, ◌<◌}
 use native.Mathlib.Omega.{arith}
 use lib.Dec.{ltb, leb, eqb}
-use lib.ListN.{length, get_or, get_or-map}
+use lib.ListN.{length, get_or, set, get_or-map}
 use borrow.Author.Tests.{ltb-true, ltb-false, eqb-true, lt-ltb, le-ltb, lt-leb, ne_eqb}
 use Rattle.theory_machine.specs.Rows.{all_below}
 use Rattle.theory_machine.specs.Tags.{first_buffer, last_buffer, first_station, last_station, buffer_count, station_count, Slot, neither, buffer, station, slot_of}
@@ -22,24 +22,48 @@ use Rattle.machine_parts.specs.View.{view_buffer, view_station}
 use Rattle.good_order.specs.SlotRules.{never, place_of, tags, place_table, place_in}
 use Rattle.good_order.proofs.Loops.{viewed}
 
--- as the code lays it down
-module _ (bs : List code-buffer.Buffer) (ss : List code-station.Station) where
-  abbrev pub buffer_entry : (i : ℕ) → ℕ
-  buffer_entry i = place_of (buffer_giver (view_buffer (get_or bs i (record { state = buffer-state.Free }))))
+-- as the code lays it down: f has the buffers' places, and g the stations'
+abbrev pub laid : (f g : ℕ → ℕ) → List ℕ
+laid f g =
+    never ∷ f 0 ∷ f 1 ∷ f 2 ∷ f 3 ∷ f 4 ∷ f 5 ∷ never ∷ g 0 ∷ g 1 ∷ g 2 ∷ g 3 ∷ g 4 ∷ []
 
-  abbrev pub station_entry : (i : ℕ) → ℕ
-  station_entry i = place_of (station_giver (view_station (get_or ss i (record { state = station-state.Free }))))
+-- the first n of them
+abbrev pub first_places : (n : ℕ) (f : ℕ → ℕ) → ℕ → ℕ
+first_places n f k = cond (ltb k n) (f k) never
 
-  pub table-laid : never ∷ buffer_entry 0 ∷ buffer_entry 1 ∷ buffer_entry 2 ∷ buffer_entry 3 ∷ buffer_entry 4 ∷ buffer_entry 5
-      ∷ never ∷ station_entry 0 ∷ station_entry 1 ∷ station_entry 2 ∷ station_entry 3 ∷ station_entry 4 ∷ []
-      ≡ place_table (map view_buffer bs) (map view_station ss)
-  unfolding giver slot_of
-  table-laid =
-      let b : (i : ℕ) → get_or (map view_buffer bs) i free_buffer ≡ view_buffer (get_or bs i (record { state = buffer-state.Free })) =
-      λ i. get_or-map view_buffer bs i (record { state = buffer-state.Free }) in
-      let s : (i : ℕ) → get_or (map view_station ss) i free_station ≡ view_station (get_or ss i (record { state = station-state.Free })) =
-      λ i. get_or-map view_station ss i (record { state = station-state.Free }) in
-      rw (b 0, b 1, b 2, b 3, b 4, b 5, s 0, s 1, s 2, s 3, s 4)
+module _ (f g : ℕ → ℕ) where
+  pub next_buffer : (i : ℕ) → i < 6 → set (laid (first_places i f) g) (1 + i) (f i) ≡ laid (first_places (i + 1) f) g
+  next_buffer zero h = refl
+  next_buffer (suc zero) h = refl
+  next_buffer (suc (suc zero)) h = refl
+  next_buffer (suc (suc (suc zero))) h = refl
+  next_buffer (suc (suc (suc (suc zero)))) h = refl
+  next_buffer (suc (suc (suc (suc (suc zero))))) h = refl
+  next_buffer (suc (suc (suc (suc (suc (suc i)))))) h = absurd (omega arith)
+
+  pub next_station : (i : ℕ) → i < 5 → set (laid f (first_places i g)) (8 + i) (g i) ≡ laid f (first_places (i + 1) g)
+  next_station zero h = refl
+  next_station (suc zero) h = refl
+  next_station (suc (suc zero)) h = refl
+  next_station (suc (suc (suc zero))) h = refl
+  next_station (suc (suc (suc (suc zero)))) h = refl
+  next_station (suc (suc (suc (suc (suc i))))) h = absurd (omega arith)
+
+abbrev pub buffer_entry : List code-buffer.Buffer → (i : ℕ) → ℕ
+buffer_entry bs i = place_of (buffer_giver (view_buffer (get_or bs i (record { state = buffer-state.Free }))))
+
+abbrev pub station_entry : List code-station.Station → (i : ℕ) → ℕ
+station_entry ss i = place_of (station_giver (view_station (get_or ss i (record { state = station-state.Free }))))
+
+pub table-laid : (bs : List code-buffer.Buffer) (ss : List code-station.Station)
+    → laid (buffer_entry bs) (station_entry ss) ≡ place_table (map view_buffer bs) (map view_station ss)
+unfolding giver slot_of
+table-laid bs ss =
+    let b : (i : ℕ) → get_or (map view_buffer bs) i free_buffer ≡ view_buffer (get_or bs i (record { state = buffer-state.Free })) =
+    λ i. get_or-map view_buffer bs i (record { state = buffer-state.Free }) in
+    let s : (i : ℕ) → get_or (map view_station ss) i free_station ≡ view_station (get_or ss i (record { state = station-state.Free })) =
+    λ i. get_or-map view_station ss i (record { state = station-state.Free }) in
+    rw (b 0, b 1, b 2, b 3, b 4, b 5, s 0, s 1, s 2, s 3, s 4)
 
 module _ {A : Type 0} (bs : List (Buffer A)) (ss : List (Station A)) where
   past-tags : (t : ℕ) → last_station < t → giver bs ss t ≡ nobody

@@ -12,8 +12,7 @@ pub(crate) const NEVER: usize = 0xFFFF_FFFF_FFFF_FFFF;
 fn buffer_place(buffer: Buffer) -> usize
     ensures { result ≡ place_of (buffer_giver (view_buffer buffer)) }
 {
-    let state = buffer.state;
-    match state {
+    match buffer.state {
         BufferState::Free => NEVER,
         BufferState::Waiting(fetch) => fetch.place,
         BufferState::Full(fetched) => fetched.place,
@@ -23,8 +22,7 @@ fn buffer_place(buffer: Buffer) -> usize
 fn station_place(station: Station) -> usize
     ensures { result ≡ place_of (station_giver (view_station station)) }
 {
-    let state = station.state;
-    match state {
+    match station.state {
         StationState::Free => NEVER,
         StationState::Holding(work) => work.place,
         StationState::Done(worked) => worked.place,
@@ -38,26 +36,18 @@ pub(crate) fn giver_places(
 ) -> [usize; Tag::LIMIT]
     ensures { result ≡ place_table (map view_buffer buffers) (map view_station stations) }
 {
-    let b1 = buffer_place(buffers[0]);
-    let b2 = buffer_place(buffers[1]);
-    let b3 = buffer_place(buffers[2]);
-    let b4 = buffer_place(buffers[3]);
-    let b5 = buffer_place(buffers[4]);
-    let b6 = buffer_place(buffers[5]);
-    let s8 = station_place(stations[0]);
-    let s9 = station_place(stations[1]);
-    let s10 = station_place(stations[2]);
-    let s11 = station_place(stations[3]);
-    let s12 = station_place(stations[4]);
-    [NEVER, b1, b2, b3, b4, b5, b6, NEVER, s8, s9, s10, s11, s12]
+    let mut places = [NEVER; Tag::LIMIT];
+    for (i, buffer) in buffers.iter().enumerate() {
+        places[Tag::FIRST_BUFFER as usize + i] = buffer_place(*buffer);
+    }
+    for (i, station) in stations.iter().enumerate() {
+        places[Tag::FIRST_STATION as usize + i] = station_place(*station);
+    }
+    places
 }
 
 pub(crate) fn giver_place(tag: Tag, places: &[usize; Tag::LIMIT]) -> usize
     ensures { result ≡ place_in places.now tag.0 }
 {
-    let t = tag.0;
-    if Tag::LAST_STATION < t {
-        return NEVER;
-    }
-    places[t as usize]
+    places.get(usize::from(tag.0)).copied().unwrap_or(NEVER)
 }

@@ -13,23 +13,17 @@ pub(crate) fn registers_good(
 ) -> bool
     ensures { result ≡ registers_good (place_in places.now) binary64.nought (map view_register registers) }
 {
-    for i in 0..registers.len() {
-        if !slot_rules::register_good(registers[i], places) {
-            return false;
-        }
-    }
-    true
+    registers
+        .iter()
+        .all(|register| slot_rules::register_good(*register, places))
 }
 
 pub(crate) fn buffers_good(buffers: [Buffer; Tag::BUFFERS], next: usize, operands: usize) -> bool
     ensures { result ≡ buffers_good next operands (map view_buffer buffers) }
 {
-    for i in 0..buffers.len() {
-        if !slot_rules::buffer_good(buffers[i], next, operands) {
-            return false;
-        }
-    }
-    true
+    buffers
+        .iter()
+        .all(|buffer| slot_rules::buffer_good(*buffer, next, operands))
 }
 
 pub(crate) fn stations_good(
@@ -39,12 +33,9 @@ pub(crate) fn stations_good(
 ) -> bool
     ensures { result ≡ stations_good (place_in places.now) next (map view_station stations) }
 {
-    for i in 0..stations.len() {
-        if !slot_rules::station_good(stations[i], i, next, places) {
-            return false;
-        }
-    }
-    true
+    stations.iter().enumerate().all(|(i, station)| slot_rules::station_good(
+        *station, i, next, places,
+    ))
 }
 
 pub(crate) fn stores_good(
@@ -55,21 +46,13 @@ pub(crate) fn stores_good(
 ) -> bool
     ensures { result ≡ stores_good (place_in places.now) next results (map view_store stores) }
 {
-    for i in 0..stores.len() {
-        if !slot_rules::store_good(stores[i], next, results, places) {
-            return false;
-        }
-    }
-    true
+    stores.iter().all(|store| slot_rules::store_good(*store, next, results, places))
 }
 
 pub(crate) fn stores_apart(stores: [StoreBuffer; StoreBuffer::COUNT]) -> bool
     ensures { result ≡ stores_apart (map view_store stores) }
 {
-    if slot_rules::stores_differ(stores[0], stores[1]) {
-        if slot_rules::stores_differ(stores[0], stores[2]) {
-            return slot_rules::stores_differ(stores[1], stores[2]);
-        }
-    }
-    false
+    slot_rules::stores_differ(stores[0], stores[1])
+        && slot_rules::stores_differ(stores[0], stores[2])
+        && slot_rules::stores_differ(stores[1], stores[2])
 }

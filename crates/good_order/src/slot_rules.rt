@@ -13,8 +13,7 @@ use machine_parts::{
 pub(crate) fn register_good(register: Register, places: &[usize; Tag::LIMIT]) -> bool
     ensures { result ≡ register_good (place_in places.now) (view_register register) }
 {
-    let operand = register.operand;
-    match operand {
+    match register.operand {
         Operand::Number(_) => true,
         Operand::Waits(tag) => givers::giver_place(tag, places) != givers::NEVER,
     }
@@ -29,34 +28,27 @@ fn operand_good(operand: Operand, place: usize, places: &[usize; Tag::LIMIT]) ->
         Operand::Waits(tag) => {
             let given = givers::giver_place(tag, places);
             if tag.0 < Tag::FIRST_STATION {
-                return given <= place;
+                given <= place
+            } else {
+                given < place
             }
-            given < place
         }
     }
 }
 
+#[tactic(auto, unfolding(words::specs::Instructions::is_cell))]
 fn cell_good(area: usize, cell: usize) -> bool
     ensures { result ≡ is_cell area cell }
 {
-    if cell < words::CELL_LIMIT {
-        return cell < area;
-    }
-    false
+    cell < words::CELL_LIMIT && cell < area
 }
 
 pub(crate) fn buffer_good(buffer: Buffer, next: usize, operands: usize) -> bool
     ensures { result ≡ buffer_good next operands (view_buffer buffer) }
 {
-    let state = buffer.state;
-    match state {
+    match buffer.state {
         BufferState::Free => true,
-        BufferState::Waiting(fetch) => {
-            if fetch.place < next {
-                return cell_good(operands, fetch.cell);
-            }
-            false
-        }
+        BufferState::Waiting(fetch) => fetch.place < next && cell_good(operands, fetch.cell),
         BufferState::Full(fetched) => fetched.place < next,
     }
 }
@@ -69,22 +61,13 @@ pub(crate) fn station_good(
 ) -> bool
     ensures { result ≡ station_good (place_in places.now) next index (view_station station) }
 {
-    let state = station.state;
-    match state {
+    match station.state {
         StationState::Free => true,
         StationState::Holding(work) => {
-            let place = work.place;
-            let operation = work.operation;
-            let sink = work.sink;
-            let source = work.source;
-            if place < next {
-                if Tag::suits(index, operation) {
-                    if operand_good(sink, place, places) {
-                        return operand_good(source, place, places);
-                    }
-                }
-            }
-            false
+            work.place < next
+                && Tag::suits(index, work.operation)
+                && operand_good(work.sink, work.place, places)
+                && operand_good(work.source, work.place, places)
         }
         StationState::Done(worked) => worked.place < next,
     }
@@ -98,18 +81,12 @@ pub(crate) fn store_good(
 ) -> bool
     ensures { result ≡ store_good (place_in places.now) next results (view_store store) }
 {
-    let state = store.state;
-    match state {
+    match store.state {
         StoreState::Free => true,
         StoreState::Live(pending) => {
-            let place = pending.place;
-            let operand = pending.operand;
-            if place < next {
-                if cell_good(results, pending.cell) {
-                    return operand_good(operand, place, places);
-                }
-            }
-            false
+            pending.place < next
+                && cell_good(results, pending.cell)
+                && operand_good(pending.operand, pending.place, places)
         }
     }
 }
@@ -117,13 +94,8 @@ pub(crate) fn store_good(
 pub(crate) fn stores_differ(one: StoreBuffer, other: StoreBuffer) -> bool
     ensures { result ≡ cells_apart (view_store one) (view_store other) }
 {
-    let x = one.state;
-    let y = other.state;
-    match x {
-        StoreState::Free => true,
-        StoreState::Live(pending) => match y {
-            StoreState::Free => true,
-            StoreState::Live(second) => second.cell != pending.cell,
-        },
+    match (one.state, other.state) {
+        (StoreState::Live(first), StoreState::Live(second)) => second.cell != first.cell,
+        _ => true,
     }
 }

@@ -6,19 +6,8 @@ use Prim.Native.Nat.{ℕ}
 use native.Mathlib.Omega.{arith}
 use lib.Dec.{eqb}
 use borrow.Author.Tests.{eqb-true, ne_eqb}
-use Rattle.seven_bit.specs.declared.Parsed as code
 use Rattle.seven_bit.specs.SevenBits.{Parsed, accepted, refused, number_at}
-use Rattle.seven_bit.specs.Told.{told}
 use Rattle.list_file.specs.Reading.{and_then, owned, field_at}
-use Rattle.list_file.specs.Passes.{kept_by}
-
--- a call's answer that came out as one of its cases: what was to be read is that case
-pub told_as : {x y : code.Parsed} {p : Parsed ℕ} → told x ≡ p → x ≡ y → p ≡ told y
-told_as e q = sym e ∙ ap told q
-
--- and likewise what was kept besides
-pub kept_as : {x y : code.Parsed} (words : List ℕ) {p : Parsed (List ℕ)} → p ≡ kept_by (told x) words → x ≡ y → p ≡ kept_by (told y) words
-kept_as words e q = e ∙ ap (λ (x : code.Parsed). kept_by (told x) words) q
 
 pub value_of : {A : Type 0} {x y : A} {n m : ℕ} → accepted x n ≡ accepted y m → x ≡ y
 value_of e = cc

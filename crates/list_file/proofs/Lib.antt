@@ -4,6 +4,7 @@ pub mod Forward
 pub mod Inverse
 pub mod Laid
 pub mod Measured
+pub mod OneWord
 pub mod Passed
 pub mod Refusals
 pub mod RoundTrip

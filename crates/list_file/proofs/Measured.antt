@@ -6,11 +6,10 @@ use native.Mathlib.Omega.{arith}
 use lib.ListN.{length, get_or, drop, length-append, drop_of_length-le}
 use borrow.Author.Tests.{lt-ltb, le-ltb}
 use Rattle.words.specs.Instructions.{list_limit}
-use Rattle.words.specs.Check.{word_refusal, first_bad, list_check, no_areas}
+use Rattle.words.specs.Check.{word_refusal, first_bad, list_check, list_check_alone, no_areas}
 use Rattle.words.proofs.Bad.{bad_here, bad_later, bad_none}
 use Rattle.seven_bit.specs.SevenBits.{bytes_of}
 use Rattle.list_file.specs.Writing.{word_bytes, words_bytes, file_of}
-use Rattle.list_file.specs.Passes.{Measuring}
 use Rattle.list_file.proofs.Laid.{words-next, nine_bytes}
 use Rattle.seven_bit.proofs.Shortest.{few_bytes}
 
@@ -21,9 +20,9 @@ pub record Sizing (list : List ℕ) (size place : ℕ) : Type 0 where
   pub checked : first_bad no_areas 0 list ≡ first_bad no_areas place (drop place list)
 
 module _ (list : List ℕ) where
-  pub too_long_lem : list_limit < length list → Measuring list 1 list_limit 0
+  pub too_long_lem : list_limit < length list → record { refusal = 1; place = list_limit } ≡ list_check_alone list
   unfolding list_check
-  too_long_lem h = record { check = rw (lt-ltb list_limit (length list) h); measured = λ e. absurd (omega arith) }
+  too_long_lem h = rw (lt-ltb list_limit (length list) h)
 
   pub sizing_none : {size : ℕ} → size ≡ length (bytes_of (length list)) → Sizing list size 0
   sizing_none e = record {
@@ -46,16 +45,14 @@ module _ (list : List ℕ) where
         checked = s.checked ∙ bad_later no_areas list place h ok;
       }
 
-      pub sizing_bad : length list ≤ list_limit → {bad : ℕ} → bad ≡ refusal → (bad ≡ 0 → ⊥) → Measuring list bad place 0
+      pub sizing_bad : length list ≤ list_limit → {bad : ℕ} → bad ≡ refusal → (bad ≡ 0 → ⊥) → record { refusal = bad; place = place } ≡ list_check_alone list
       unfolding list_check
-      sizing_bad short e n = record {
-        check = rw (le-ltb list_limit (length list) short, e) (sym (s.checked ∙ bad_here no_areas list place h (rw e at n)));
-        measured = λ z. absurd (n z);
-      }
+      sizing_bad short e n = rw (le-ltb list_limit (length list) short, e) (sym (s.checked ∙ bad_here no_areas list place h (rw e at n)))
 
-    pub sizing_all : length list ≤ list_limit → length list ≤ place → Measuring list 0 place size
+    pub sizing_all : length list ≤ list_limit → length list ≤ place
+        → (record { refusal = 0; place = length list } ≡ list_check_alone list) × (size ≡ length (file_of list))
     unfolding list_check
-    sizing_all short past = record {
-      check = rw (le-ltb list_limit (length list) short) (sym (s.checked ∙ bad_none no_areas list place past));
-      measured = λ z. omega (arith, s.sized, ap (λ (l : List ℕ). length (words_bytes l)) (drop_of_length-le list past));
-    }
+    sizing_all short past = (
+      rw (le-ltb list_limit (length list) short) (sym (s.checked ∙ bad_none no_areas list place past s.within)),
+      omega (arith, s.sized, ap (λ (l : List ℕ). length (words_bytes l)) (drop_of_length-le list past)),
+    )

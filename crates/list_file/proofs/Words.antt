@@ -8,8 +8,13 @@ use native.Mathlib.Numerals.{add-one}
 use native.Mathlib.Omega.{arith}
 use lib.Dec.{ltb}
 use lib.ListN.{length, take, set, length-set}
-use lib.Seq.{take-suc-set}
+use lib.Seq.{take-suc-set, take_all}
 use borrow.Author.Tests.{ltb-false, lt-ltb, le-ltb}
+use Rattle.std.specs.Prelude.{Result, IsErrAnd}
+use Rattle.words.specs.declared.refusal.Refused.{Refused}
+use Rattle.words.specs.Refusals.{number}
+use Rattle.words.proofs.Refusals.{handed_on}
+use Rattle.list_file.specs.Passes.{kept_by}
 use Rattle.seven_bit.specs.SevenBits.{Parsed, accepted, refused}
 use Rattle.list_file.specs.Reading.{and_then, word_at, words_at}
 use Rattle.list_file.proofs.Inverse.{not_accepted, value_of, next_of, then_of}
@@ -38,51 +43,53 @@ module _ (bytes : List ℕ) (at : ℕ) where
 abbrev in_front : List ℕ → Parsed (List ℕ) → Parsed (List ℕ)
 in_front row rest = and_then rest (λ words end. accepted (row ++ words) end)
 
--- the reader's pass, with i of the words kept
-pub record Keeping (bytes : List ℕ) (start count : ℕ) (kept₀ kept : List ℕ) (at i : ℕ) : Type 0 where
-  pub within : i ≤ count
-  pub room : count ≤ length kept₀
-  pub same : length kept ≡ length kept₀
-  pub read : words_at count bytes start ≡ in_front (take i kept) (words_at (count - i) bytes at)
+-- a pass that `?` ended
+pub stopped : (a : Result Unit Refused) (kept : List ℕ) (end : ℕ) (e : Refused) → IsErrAnd a (λ x. x ≡ e)
+    → refused (number e.refusal) e.place ≡ kept_by a kept end
+stopped a kept end e h = sym (ap (λ r. kept_by r kept end) (handed_on a e h))
 
-module _ (bytes : List ℕ) (start count : ℕ) (kept₀ : List ℕ) where
-  pub keeping_none : count ≤ length kept₀ → Keeping bytes start count kept₀ kept₀ start 0
-  keeping_none h =
-      let z : count - 0 ≡ count = omega arith in
-      record { within = omega arith; room = h; same = refl; read = rw z (go (words_at count bytes start)) }
+-- the reader's pass over the places of a row, with i of them kept
+pub record Keeping (bytes : List ℕ) (start : ℕ) (kept₀ kept : List ℕ) (at i : ℕ) : Type 0 where
+  pub same : length kept ≡ length kept₀
+  pub read : words_at (length kept₀) bytes start ≡ in_front (take i kept) (words_at (length kept₀ - i) bytes at)
+
+module _ (bytes : List ℕ) (start : ℕ) (kept₀ : List ℕ) where
+  pub keeping_none : Keeping bytes start kept₀ kept₀ start 0
+  keeping_none =
+      let z : length kept₀ - 0 ≡ length kept₀ = omega arith in
+      record { same = refl; read = rw z (go (words_at (length kept₀) bytes start)) }
     where
       go : (p : Parsed (List ℕ)) → p ≡ in_front [] p
       go (accepted words end) = refl
       go (refused refusal place) = refl
 
-  module _ {kept : List ℕ} {at i : ℕ} (s : Keeping bytes start count kept₀ kept at i) where
-    pub keeping_more : {word next : ℕ} → i < count → word_at bytes at ≡ accepted word next
-        → Keeping bytes start count kept₀ (set kept i word) next (i + 1)
+  module _ {kept : List ℕ} {at i : ℕ} (s : Keeping bytes start kept₀ kept at i) where
+    pub keeping_more : {word next : ℕ} → i < length kept₀ → word_at bytes at ≡ accepted word next
+        → Keeping bytes start kept₀ (set kept i word) next (i + 1)
     keeping_more {word} {next} h e =
-        let z : count - i - 1 ≡ count - (i + 1) = omega arith in
-        let m = words_more bytes at (count - i) (omega arith) e in
+        let n = length kept₀ in
+        let z : n - i - 1 ≡ n - (i + 1) = omega arith in
+        let m = words_more bytes at (n - i) (omega arith) e in
         record {
-          within = omega arith;
-          room = s.room;
           same = simp length-set s.same;
-          read = s.read ∙ rw (m, z, add-one i, take-suc-set kept i word (omega arith)) (go (words_at (count - suc i) bytes next));
+          read = s.read ∙ rw (m, z, add-one i, take-suc-set kept i word (omega (arith, s.same))) (go (words_at (n - suc i) bytes next));
         }
       where
         go : (p : Parsed (List ℕ)) → in_front (take i kept) (consed word p) ≡ in_front (take i kept ++ (word ∷ [])) p
         go (accepted words end) = rw (append_assoc (take i kept) (word ∷ []) words)
         go (refused refusal place) = refl
 
-    pub keeping_stops : {refusal place : ℕ} → i < count → word_at bytes at ≡ refused refusal place → words_at count bytes start ≡ refused refusal place
-    keeping_stops h e = s.read ∙ rw (words_stop bytes at (count - i) (omega arith) e)
+    pub keeping_stops : {refusal place : ℕ} → i < length kept₀ → word_at bytes at ≡ refused refusal place
+        → words_at (length kept₀) bytes start ≡ refused refusal place
+    keeping_stops h e = s.read ∙ rw (words_stop bytes at (length kept₀ - i) (omega arith) e)
 
-    pub keeping_left : count ≤ i → at < length bytes → words_at count bytes start ≡ refused 10 at
-    keeping_left h l = let z : count - i ≡ 0 = omega arith in s.read ∙ rw (z, end_left bytes at l)
+    pub keeping_left : length kept₀ ≤ i → at < length bytes → words_at (length kept₀) bytes start ≡ refused 10 at
+    keeping_left h l = let z : length kept₀ - i ≡ 0 = omega arith in s.read ∙ rw (z, end_left bytes at l)
 
-    pub keeping_all : count ≤ i → length bytes ≤ at → words_at count bytes start ≡ accepted (take count kept) (length bytes)
+    pub keeping_all : length kept₀ ≤ i → length bytes ≤ at → words_at (length kept₀) bytes start ≡ accepted kept (length bytes)
     keeping_all h l =
-        let z : count - i ≡ 0 = omega arith in
-        let n : i ≡ count = omega arith in
-        s.read ∙ rw (z, n, end_exact bytes at l, append-nil (take count kept))
+        let z : length kept₀ - i ≡ 0 = omega arith in
+        s.read ∙ rw (z, end_exact bytes at l, append-nil (take i kept), take_all i kept (omega (arith, s.same)))
 
 -- the end of an accepted file
 pub record Ended (bytes : List ℕ) (at : ℕ) (words : List ℕ) (end : ℕ) : Type 0 where

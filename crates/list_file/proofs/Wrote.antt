@@ -9,12 +9,11 @@ use lib.ListN.{length}
 use lib.Seq.{sets}
 use borrow.Author.Tests.{ltb-false, lt-ltb, le-ltb, eq-eqb, ne_eqb}
 use Rattle.words.specs.Instructions.{list_limit}
-use Rattle.words.specs.declared.Verdict.{Verdict}
+use Rattle.words.specs.Check.{Verdict}
 use Rattle.words.specs.declared.Areas.{Areas}
-use Rattle.words.specs.Check.{first_bad, list_check, no_areas}
+use Rattle.words.specs.Check.{first_bad, list_check, list_check_alone, no_areas}
 use Rattle.seven_bit.specs.SevenBits.{bytes_of}
-use Rattle.list_file.specs.Writing.{words_bytes, file_of, write_answer, write_bytes}
-use Rattle.list_file.specs.Passes.{Measuring}
+use Rattle.list_file.specs.Writing.{Written, words_bytes, file_of, write_answer, write_bytes}
 use Rattle.list_file.proofs.Laid.{sets_append}
 use Rattle.list_file.proofs.Passed.{sets_over}
 
@@ -34,28 +33,30 @@ pub sets_file : (bytes list : List ℕ)
     → sets (sets bytes 0 (bytes_of (length list))) (0 + length (bytes_of (length list))) (words_bytes list) ≡ sets bytes 0 (file_of list)
 sets_file bytes list = sym (sets_append bytes 0 (bytes_of (length list)) (words_bytes list))
 
-module _ (list bytes : List ℕ) {refusal place size : ℕ} (m : Measuring list refusal place size) where
+module _ (list bytes : List ℕ) where
   -- what the writer gives and leaves
-  abbrev Wrote : (length refusal : ℕ) → List ℕ → Type 0
-  Wrote n r b = (record { length = n; refusal = r; place = place } ≡ write_answer list bytes) × (b ≡ write_bytes list bytes)
+  abbrev Wrote : Written → List ℕ → Type 0
+  Wrote answer b = (answer ≡ write_answer list bytes) × (b ≡ write_bytes list bytes)
 
-  pub wrote_refused : (refusal ≡ 0 → ⊥) → Wrote 0 refusal bytes
-  wrote_refused n = (rw (← m.check, ne_eqb refusal 0 n), rw (← m.check, ne_eqb refusal 0 n, ne_eqb refusal 0 n))
+  pub wrote_refused : (refusal : ℕ) {place : ℕ} → (refusal ≡ 0 → ⊥) → record { refusal = refusal; place = place } ≡ list_check_alone list
+      → Wrote (record { length = 0; refusal = refusal; place = place }) bytes
+  wrote_refused refusal n check = (rw (← check, ne_eqb refusal 0 n), rw (← check, ne_eqb refusal 0 n, ne_eqb refusal 0 n))
 
-  module _ (ok : refusal ≡ 0) where
-    pub wrote_short : length bytes < size → Wrote 0 11 bytes
+  module _ {place size : ℕ} (check : record { refusal = 0; place = place } ≡ list_check_alone list) (sized : size ≡ length (file_of list)) where
+    pub wrote_short : length bytes < size → Wrote (record { length = 0; refusal = 11; place = place }) bytes
     wrote_short h =
-        let s : length bytes < length (file_of list) = omega (arith, m.measured ok) in (
-          rw (← m.check, eq-eqb refusal 0 ok, lt-ltb (length bytes) (length (file_of list)) s),
-          rw (← m.check, eq-eqb refusal 0 ok, lt-ltb (length bytes) (length (file_of list)) s),
+        let s : length bytes < length (file_of list) = omega arith in (
+          rw (← check, lt-ltb (length bytes) (length (file_of list)) s),
+          rw (← check, lt-ltb (length bytes) (length (file_of list)) s),
         )
 
-    pub wrote_all : size ≤ length bytes → {bytes' : List ℕ} → bytes' ≡ sets bytes 0 (file_of list) → Wrote size 0 bytes'
+    pub wrote_all : size ≤ length bytes → {bytes' : List ℕ} → bytes' ≡ sets bytes 0 (file_of list)
+        → Wrote (record { length = size; refusal = 0; place = place }) bytes'
     wrote_all h e =
-        let s : length (file_of list) ≤ length bytes = omega (arith, m.measured ok) in (
-          rw (m.measured ok, ← m.check, eq-eqb refusal 0 ok, le-ltb (length bytes) (length (file_of list)) s),
-          e ∙ sets_over (file_of list) bytes s ∙ rw (← m.check, eq-eqb refusal 0 ok, le-ltb (length bytes) (length (file_of list)) s),
+        let s : length (file_of list) ≤ length bytes = omega arith in (
+          rw (sized, ← check, le-ltb (length bytes) (length (file_of list)) s),
+          e ∙ sets_over (file_of list) bytes s ∙ rw (← check, le-ltb (length bytes) (length (file_of list)) s),
         )
 
     pub wrote_within : length list ≤ list_limit
-    wrote_within = within_limit no_areas list (sym (ap (λ (v : Verdict). v.refusal) m.check) ∙ ok)
+    wrote_within = within_limit no_areas list (sym (ap (λ (v : Verdict). v.refusal) check))

@@ -2,7 +2,6 @@
 use Rattle.std.specs.Prelude.{cond, List, [], ◌∷◌, ◌++◌, ℕ, zero, suc, ltb, eqb, length, drop}
 use Rattle.words.specs.Instructions.{word_of, form_of, list_limit}
 use Rattle.words.specs.Check.{operation_refusal, register_refusal, operand_refusal, no_areas, first_of}
-use Rattle.list_file.specs.declared.ListRead.{ListRead}
 use Rattle.seven_bit.specs.SevenBits.{Parsed, accepted, refused, number_at}
 
 -- "Reading goes left to right": what is read next begins where this ended; a refusal ends the reading
@@ -43,6 +42,12 @@ count_refusal room count = first_of (cond (ltb list_limit count) 1 0 ∷ cond (l
 -- "A list file is the count, then .. each word", read with room for so many words
 unfoldable pub list_in : (room : ℕ) → List ℕ → Parsed (List ℕ)
 list_in room bytes = and_then (field_at (count_refusal room) bytes 0) (λ count at. words_at count bytes at)
+
+-- the answer of a read: how many words, and a refusal number, 0 for accepted, with its byte place
+pub record ListRead : Type 0 where
+  pub count : ℕ
+  pub refusal : ℕ
+  pub place : ℕ
 
 -- "An accepted read gives the count, and the file's length as place; a refused one count 0."
 abbrev pub answered : Parsed (List ℕ) → ListRead

@@ -1,9 +1,8 @@
 -- Document 01, "The list file and the schedule": writing a list file.
 use Rattle.std.specs.Prelude.{cond, List, [], ◌∷◌, ◌++◌, ℕ, ltb, eqb, length}
-use Rattle.words.specs.declared.Verdict.{Verdict}
+use Rattle.words.specs.Check.{Verdict}
 use Rattle.words.specs.Instructions.{operation_field, r1_field, operand_field}
 use Rattle.words.specs.Check.{list_check_alone}
-use Rattle.list_file.specs.declared.Written.{Written}
 use Rattle.seven_bit.specs.SevenBits.{bytes_of}
 use Rattle.list_file.specs.Reading.{over}
 
@@ -18,6 +17,12 @@ words_bytes (word ∷ words) = word_bytes word ++ words_bytes words
 -- "A list file is the count, then operation, R1 and operand for each word."
 abbrev pub file_of : List ℕ → List ℕ
 file_of words = bytes_of (length words) ++ words_bytes words
+
+-- the answer of a write: the file's length, and a refusal number, 0 for accepted, with the list check's place
+pub record Written : Type 0 where
+  pub length : ℕ
+  pub refusal : ℕ
+  pub place : ℕ
 
 -- "Writing checks the list without areas, then 11, and gives the file's length, 0 when refused"; the place is the check's
 abbrev pub written_by : Verdict → (room length : ℕ) → Written

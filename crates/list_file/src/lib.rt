@@ -4,18 +4,16 @@
 pub mod reader;
 pub mod writer;
 
-// The answer of a read: how many words, and a refusal number of 01 (0 for accepted) with its byte place.
-#[derive(Clone, Copy)]
+// What an accepted read gives: how many words, and the file's length.
+#[derive(Clone, Copy, Debug, PartialEq, Eq)]
 pub struct ListRead {
     pub count: usize,
-    pub refusal: u32,
     pub place: usize,
 }
 
-// The answer of a write: the file's length, and a refusal number of 01 (0 for accepted) with the list check's place.
-#[derive(Clone, Copy)]
+// What an accepted write gives: the file's length, and the list's.
+#[derive(Clone, Copy, Debug, PartialEq, Eq)]
 pub struct Written {
     pub length: usize,
-    pub refusal: u32,
     pub place: usize,
 }

@@ -3,19 +3,13 @@ ghost use Rattle.std.specs.Prelude.{◌≡◌, ◌+◌, ◌≤◌, ◌<◌, leng
 ghost use Rattle.std.proofs.lemmas.List.Edits.{sets};
 ghost use Rattle.seven_bit.specs.SevenBits.{bytes_of};
 ghost use Rattle.list_file.specs.Writing.{word_bytes, words_bytes, write_answer, write_bytes};
+ghost use Rattle.list_file.specs.Answers.{told_written};
 ghost use Rattle.list_file.specs.Passes.{Measuring};
 
 use crate::Written;
 use seven_bit::number_size;
-use words::{LIST_LIMIT, NO_AREAS, refusal};
-
-// What the first pass finds: the list check's answer, and the file's length if that is 0.
-#[derive(Clone, Copy)]
-struct Measured {
-    refusal: u32,
-    place: usize,
-    length: usize,
-}
+use words::refusal::{Refusal, Refused, placed};
+use words::{LIST_LIMIT, NO_AREAS};
 
 fn word_size(word: u32) -> usize
     ensures { result ≡ length (word_bytes word) }
@@ -42,35 +36,21 @@ fn put_word(word: u32, bytes: &mut [u8], at: usize) -> usize
 }
 
 // The first pass: the list check without areas, and the length of the file.
-fn measure(list: &[u32]) -> Measured
-    ensures { Measuring list.now result.refusal result.place result.length }
+fn measure(list: &[u32]) -> Result<Written, Refused>
+    ensures { Measuring list.now result }
 {
     if LIST_LIMIT < list.len() {
-        return Measured {
-            refusal: refusal::LIST,
-            place: LIST_LIMIT,
-            length: 0,
-        };
+        return Err(Refusal::List.at(LIST_LIMIT));
     }
-    let mut size = number_size(list.len() as u32);
-    let mut place = 0;
-    while place < list.len() {
-        let bad = words::word_refusal(list[place], NO_AREAS);
-        if bad != 0 {
-            return Measured {
-                refusal: bad,
-                place,
-                length: 0,
-            };
-        }
-        size += word_size(list[place]);
-        place += 1;
+    let mut length = number_size(list.len() as u32);
+    for (place, word) in list.iter().enumerate() {
+        placed(words::word_refusal(*word, NO_AREAS), place)?;
+        length += word_size(*word);
     }
-    Measured {
-        refusal: refusal::ACCEPTED,
-        place,
-        length: size,
-    }
+    Ok(Written {
+        length,
+        place: list.len(),
+    })
 }
 
 // The second pass: stores the words of a list that the first accepted.
@@ -79,37 +59,20 @@ fn put_words(list: &[u32], bytes: &mut [u8], start: usize)
     ensures { bytes.new ≡ sets bytes.old start (words_bytes list.now) }
 {
     let mut at = start;
-    let mut place = 0;
-    while place < list.len() {
-        at = put_word(list[place], bytes, at);
-        place += 1;
+    for word in list {
+        at = put_word(*word, bytes, at);
     }
 }
 
 // Writes a list as a list file into the bytes lent.
-pub fn write(list: &[u32], bytes: &mut [u8]) -> Written
-    ensures { (result ≡ write_answer list.now bytes.old) × (bytes.new ≡ write_bytes list.now bytes.old) }
+pub fn write(list: &[u32], bytes: &mut [u8]) -> Result<Written, Refused>
+    ensures { (told_written result ≡ write_answer list.now bytes.old) × (bytes.new ≡ write_bytes list.now bytes.old) }
 {
-    let measured = measure(list);
-    if measured.refusal != 0 {
-        return Written {
-            length: 0,
-            refusal: measured.refusal,
-            place: measured.place,
-        };
-    }
+    let measured = measure(list)?;
     if bytes.len() < measured.length {
-        return Written {
-            length: 0,
-            refusal: refusal::ROOM,
-            place: measured.place,
-        };
+        return Err(Refusal::Room.at(measured.place));
     }
     let start = put_number(list.len() as u32, bytes, 0);
     put_words(list, bytes, start);
-    Written {
-        length: measured.length,
-        refusal: refusal::ACCEPTED,
-        place: measured.place,
-    }
+    Ok(measured)
 }

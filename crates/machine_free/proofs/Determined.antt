@@ -1,8 +1,7 @@
 -- The contract of each public function determines its answer.
 use mathlib.Core.Path.{◌≡◌, refl}
 use Rattle.numbers.proofs.Determined.{Determines, one_answer}
-use Rattle.machine_free.specs.declared.FreeSlot.{FreeSlot}
-use Rattle.machine_free.specs.declared.FreeSlot.TheVariants.{At, Nothing}
+use Rattle.std.specs.Prelude.{Option, Some, None, ℕ}
 use Rattle.machine_free.specs.Free.{view_free_slot}
 use Rattle.machine_free.proofs.lowest_buffer.Kinds as lowest-buffer-kinds
 use Rattle.machine_free.proofs.lowest_buffer.Reads as lowest-buffer-reads
@@ -13,11 +12,11 @@ use Rattle.machine_free.proofs.lowest_store.Reads as lowest-store-reads
 use Rattle.machine_free.proofs.cell_live.Kinds as cell-live-kinds
 use Rattle.machine_free.proofs.cell_live.Reads as cell-live-reads
 
-free_slot_exact : (x y : FreeSlot) → view_free_slot x ≡ view_free_slot y → x ≡ y
-free_slot_exact (At i) (At j) e = cc
-free_slot_exact (At i) Nothing e = cc
-free_slot_exact Nothing (At j) e = cc
-free_slot_exact Nothing Nothing e = refl
+free_slot_exact : (x y : Option ℕ) → view_free_slot x ≡ view_free_slot y → x ≡ y
+free_slot_exact (Some i) (Some j) e = cc
+free_slot_exact (Some i) None e = cc
+free_slot_exact None (Some j) e = cc
+free_slot_exact None None e = refl
 
 pub lowest_buffer_determined : Determines 0 lowest-buffer-kinds.ps lowest-buffer-kinds.r lowest-buffer-reads.Post
 lowest_buffer_determined κs a x y s t p q = free_slot_exact x y (one_answer p q)

@@ -1,4 +1,4 @@
 pub mod Determined
+pub mod Live
 pub mod Search
-pub mod SlotSeen
 pub mod Tested

@@ -1,5 +1,6 @@
 -- What only the code's contracts cite: the lowest free slot of a row and whether a cell is live, as the theory has them of the row alone.
-use Rattle.std.specs.Prelude.{Bool, ◌&&◌, not, List, ℕ, Float, get_or}
+use Rattle.std.specs.Prelude as std
+use Rattle.std.specs.Prelude.{Some, None, Bool, ◌&&◌, not, List, ℕ, Float, get_or}
 use Rattle.std.proofs.Math.Option.{Option, none, some}
 use Rattle.numbers.specs.declared.Operation.{Operation}
 use Rattle.theory_machine.specs.Rows.{all_below, first}
@@ -7,12 +8,11 @@ use Rattle.theory_machine.specs.Tags.{buffer_count, station_count, store_count, 
 use Rattle.theory_machine.specs.Machine as theory
 use Rattle.theory_machine.specs.Machine.{free_buffer, free_station, free_store, is_free_buffer, is_free_station, is_free_store, store_cell}
 use Rattle.theory_machine.specs.GoodOrder.{has_cell}
-use Rattle.machine_free.specs.declared.FreeSlot.{FreeSlot}
-use Rattle.machine_free.specs.declared.FreeSlot.TheVariants.{At, Nothing}
 
-abbrev pub view_free_slot : FreeSlot → Option ℕ
-view_free_slot (At i) = some i
-view_free_slot Nothing = none
+-- a slot by its index from 0, or none
+abbrev pub view_free_slot : std.Option ℕ → Option ℕ
+view_free_slot (Some i) = some i
+view_free_slot None = none
 
 -- THE LOWEST-NUMBERED FREE ONE of a row: the theory's, of the row alone
 abbrev pub lowest_buffer_in : List (theory.Buffer Float) → Option ℕ

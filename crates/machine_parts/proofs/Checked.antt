@@ -2,8 +2,7 @@
 use mathlib.Core.Path.{◌≡◌, sym, ap, ◌∙◌}
 use mathlib.Core.List.{List}
 use lib.ListN.{length, replicate}
-use Rattle.words.specs.declared.Verdict.{Verdict}
-use Rattle.words.specs.Check.{list_check}
+use Rattle.words.specs.Check.{Verdict, list_check}
 use Rattle.theory_machine.specs.Tags.{register_count}
 use Rattle.theory_machine.specs.Machine.{Kind, Lent, areas_of}
 use Rattle.theory_machine.specs.OneAtATime.{Run, run_to}

@@ -2,6 +2,7 @@
 use mathlib.Core.Path.{◌≡◌, ap}
 use lib.Ieee.{Float}
 use Rattle.numbers.proofs.Determined.{Determines, one_answer}
+use Rattle.words.proofs.Refusals.{answer_exact}
 use Rattle.theory_machine.specs.Entries as theory
 use Rattle.machine_parts.specs.declared.start.FreshMachine.{FreshMachine}
 use Rattle.machine_parts.specs.Answers.{view_fresh}
@@ -22,7 +23,8 @@ use Prim.Native.Nat.{ℕ}
 fresh_exact : (x y : FreshMachine) → view_fresh x ≡ view_fresh y → x ≡ y
 fresh_exact x y e =
     let m = view_exact x.machine y.machine (ap (λ (f : theory.Fresh Float). f.machine) e) in
-    λ i. record { machine = m i; refusal = (e i).refusal }
+    let r = answer_exact x.outcome y.outcome (ap (λ (f : theory.Fresh Float). f.refusal) e) in
+    λ i. record { machine = m i; outcome = r i }
 
 pub fresh_determined : Determines 3 fresh-kinds.ps fresh-kinds.r fresh-reads.Post
 fresh_determined κs a x y s t p q = fresh_exact x y (one_answer p q)

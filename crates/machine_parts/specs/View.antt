@@ -1,6 +1,9 @@
 -- The declared types as the machine of crate theory_machine at binary64. The view is one-to-one (proofs/Exact.antt), so a contract on it determines.
 use Rattle.std.proofs.Math.Option.{Option, none, some}
-use Rattle.std.specs.Prelude.{List, [], map, ℕ, Float, length}
+use Rattle.std.specs.Prelude as declared
+use Rattle.std.specs.Prelude.{List, [], map, ℕ, Float, length, Some, None, Result, Ok, Err}
+use Rattle.words.specs.declared.refusal.Refusal.{Refusal}
+use Rattle.words.specs.Refusals.{answer_number}
 use Rattle.theory_machine.specs.Machine as theory
 use Rattle.theory_machine.specs.Machine.{num, tag, free_buffer, waiting, full, free_station, holding, done, free_store, live, Lent, standing}
 use Rattle.theory_machine.specs.Issue.{Answer}
@@ -18,8 +21,6 @@ use Rattle.machine_parts.specs.declared.StoreState.TheVariants as store
 use Rattle.machine_parts.specs.declared.StoreBuffer.{StoreBuffer}
 use Rattle.machine_parts.specs.declared.Machine.{Machine}
 use Rattle.machine_parts.specs.declared.Record.{Record}
-use Rattle.machine_parts.specs.declared.Released.{Released}
-use Rattle.machine_parts.specs.declared.Released.TheVariants.{Nothing, One}
 use Rattle.machine_parts.specs.declared.Stepped.{Stepped}
 
 abbrev pub view_operand : Operand → theory.Operand Float
@@ -60,12 +61,17 @@ abbrev pub view_record : Record → theory.Record Float
 view_record r = record { place = r.place; cell = r.cell; number = r.number }
 
 -- what was released, if anything
-abbrev pub view_released : Released → Option (theory.Record Float)
-view_released Nothing = none
-view_released (One r) = some (view_record r)
+abbrev pub view_released : declared.Option Record → Option (theory.Record Float)
+view_released None = none
+view_released (Some r) = some (view_record r)
+
+-- a refused step releases nothing
+abbrev pub released_by : Result (declared.Option Record) Refusal → Option (theory.Record Float)
+released_by (Ok released) = view_released released
+released_by (Err refusal) = none
 
 abbrev pub view_stepped : Stepped → Answer Float
-view_stepped s = record { refusal = s.refusal; machine = view s.machine; released = view_released s.released }
+view_stepped s = record { refusal = answer_number s.outcome; machine = view s.machine; released = released_by s.outcome }
 
 -- what is lent to an entry: the list, the operand cells, and the result cells, of which only the length counts
 abbrev pub lent_with : (words : List ℕ) (operands : List Float) (results : ℕ) → Lent Float

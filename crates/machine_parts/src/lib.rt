@@ -9,6 +9,7 @@ ghost use Rattle.machine_parts.specs.TagOf.{tag_of_buffer, tag_of_station};
 ghost use Rattle.theory_machine.specs.Instruction.{index_of};
 
 use numbers::Operation;
+use words::refusal::Refusal;
 
 // A tag: a buffer's or a station's number.
 #[derive(Clone, Copy, PartialEq, Eq)]
@@ -198,16 +199,9 @@ pub struct Record {
     pub number: f64,
 }
 
-#[derive(Clone, Copy)]
-pub enum Released {
-    Nothing,
-    One(Record),
-}
-
-// The answer of a step: the machine, a refusal number of 01 (0 for accepted), and what was released.
+// The answer of a step: the machine, and what was released, if anything, or the refusal.
 #[derive(Clone, Copy)]
 pub struct Stepped {
     pub machine: Machine,
-    pub refusal: u32,
-    pub released: Released,
+    pub outcome: Result<Option<Record>, Refusal>,
 }

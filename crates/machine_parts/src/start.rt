@@ -9,13 +9,14 @@ use crate::{
     Buffer, BufferState, Machine, Operand, Register, Station, StationState, StoreBuffer,
     StoreState, Tag,
 };
-use words::{Areas, check_list_against, refusal};
+use words::refusal::Refusal;
+use words::{Areas, check_list_against};
 
-// The answer of a start: the machine, and a refusal number of 01, 0 for accepted.
+// The answer of a start: the machine, and the refusal, if there is one.
 #[derive(Clone, Copy)]
 pub struct FreshMachine {
     pub machine: Machine,
-    pub refusal: u32,
+    pub outcome: Result<(), Refusal>,
 }
 
 // At place 0 with nothing live.
@@ -24,20 +25,9 @@ fn empty_machine(numbers: [f64; Register::COUNT]) -> Machine
 {
     Machine {
         next: 0,
-        registers: [
-            Register {
-                operand: Operand::Number(numbers[0]),
-            },
-            Register {
-                operand: Operand::Number(numbers[1]),
-            },
-            Register {
-                operand: Operand::Number(numbers[2]),
-            },
-            Register {
-                operand: Operand::Number(numbers[3]),
-            },
-        ],
+        registers: numbers.map(|number| Register {
+            operand: Operand::Number(number),
+        }),
         buffers: [Buffer {
             state: BufferState::Free,
         }; Tag::BUFFERS],
@@ -59,22 +49,14 @@ pub fn fresh(
 ) -> FreshMachine
     ensures { view_fresh result ≡ fresh binary64 (lent words.now operands.now results.now) starts }
 {
-    let refused = check_list_against(
-        words,
-        Areas {
-            operands: operands.len(),
-            results: results.len(),
+    match check_list_against(words, Areas::of(operands, results)) {
+        Ok(_) => FreshMachine {
+            machine: empty_machine(starts),
+            outcome: Ok(()),
         },
-    )
-    .refusal;
-    if refused != 0 {
-        return FreshMachine {
+        Err(refused) => FreshMachine {
             machine: empty_machine([0.0; Register::COUNT]),
-            refusal: refused,
-        };
-    }
-    FreshMachine {
-        machine: empty_machine(starts),
-        refusal: refusal::ACCEPTED,
+            outcome: Err(refused.refusal),
+        },
     }
 }

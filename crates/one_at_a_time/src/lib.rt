@@ -13,13 +13,14 @@ ghost use Rattle.machine_parts.specs.View.{lent, cells_alone};
 ghost use Rattle.one_at_a_time.specs.Answers.{at, view_one_at_a_time};
 
 use machine_parts::Register;
-use words::{Areas, Form, check_list_against, refusal};
+use words::refusal::Refusal;
+use words::{Areas, Form, check_list_against};
 
-// The answer of a run: the registers, the start numbers when refused, and a refusal number of 01, 0 for accepted.
+// The answer of a run: the registers, the start numbers when refused, and the refusal, if there is one.
 #[derive(Clone, Copy)]
 pub struct OneAtATime {
     pub registers: [f64; Register::COUNT],
-    pub refusal: u32,
+    pub outcome: Result<(), Refusal>,
 }
 
 // One instruction: "R1 takes the operand"; "R1 plus, minus, times, over operand to R1"; "R1 to the result cell". The word has been checked.
@@ -65,26 +66,18 @@ pub fn one_at_a_time(
 ) -> OneAtATime
     ensures { view_one_at_a_time result results.new ≡ one_at_a_time binary64 (lent words.now operands.now results.old) (at starts results.old) }
 {
-    let refused = check_list_against(
-        words,
-        Areas {
-            operands: operands.len(),
-            results: results.len(),
-        },
-    )
-    .refusal;
-    if refused != 0 {
+    if let Err(refused) = check_list_against(words, Areas::of(operands, results)) {
         return OneAtATime {
             registers: starts,
-            refusal: refused,
+            outcome: Err(refused.refusal),
         };
     }
     let mut registers = starts;
-    for place in 0..words.len() {
-        execute(words[place], &mut registers, operands, results);
+    for word in words {
+        execute(*word, &mut registers, operands, results);
     }
     OneAtATime {
         registers,
-        refusal: refusal::ACCEPTED,
+        outcome: Ok(()),
     }
 }

@@ -10,10 +10,9 @@ use lib.Ieee.{Float}
 use lib.ListN.{length, drop}
 use lib.Seq.{sets, sets-eq}
 use borrow.Author.Tests.{lt-ltb, le-ltb, ltb-false, eq-eqb, ne_eqb}
-use Rattle.words.specs.declared.Verdict.{Verdict}
-use Rattle.operands_file.specs.declared.OperandsRead.{OperandsRead}
+use Rattle.words.specs.Check.{Verdict}
 use Rattle.operands_file.specs.Operands.{operands_in, operands_limit}
-use Rattle.operands_file.specs.Reading.{operands_verdict, answered_of, stored_of, read_answer, read_cells}
+use Rattle.operands_file.specs.Reading.{OperandsRead, operands_verdict, answered_of, stored_of, read_answer, read_cells}
 use Rattle.operands_file.proofs.Joining.{length-numbers}
 
 -- THE VERDICT
@@ -85,14 +84,10 @@ module _ (bytes : List ℕ) (cells : List Float) {v : Verdict} (is : v ≡ opera
         read_as (record { refusal = 11; place = 0; count = 0 }) (answered-no-room room count v good (omega (arith, how_many bytes))) refl
 
     module _ (enough : length bytes / 8 ≤ length cells) where
-      -- as the numbers are stored
-      pub store_room : length bytes ≤ length cells * 8
-      store_room = omega (arith, (good_size (length bytes) (sym (ap (λ (w : Verdict). w.refusal) is) ∙ good)).1)
-
-      pub read_stored : {stored : ℕ} {after : List Float} → stored ≡ length (operands_in bytes) → after ≡ sets cells 0 (operands_in bytes)
-          → Read (record { refusal = 0; place = v.place; count = stored }) after
-      read_stored {stored} {after} n e =
-          let fits : length (operands_in bytes) ≤ length cells = omega (arith, how_many bytes) in
-          rw n
-          (read_as (record { refusal = 0; place = v.place; count = length (operands_in bytes) }) (answered-room room count v good fits)
-          (e ∙ rw (sets-eq (operands_in bytes) cells 0 (omega arith), zero-add)))
+      pub read_stored : {after : List Float} → after ≡ operands_in bytes ++ drop (length bytes / 8) cells
+          → Read (record { refusal = 0; place = v.place; count = length bytes / 8 }) after
+      read_stored {after} e =
+          let n = how_many bytes in
+          let fits : length (operands_in bytes) ≤ length cells = omega arith in
+          let r = read_as (record { refusal = 0; place = v.place; count = length (operands_in bytes) }) (answered-room room count v good fits) (e ∙ rw n) in
+          (ap (λ k. record { refusal = 0; place = v.place; count = k }) (sym n) ∙ r.0, r.1)

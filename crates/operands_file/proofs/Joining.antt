@@ -1,44 +1,46 @@
 -- The operands file: a pattern byte by byte, and the cells number by number.
 use mathlib.Core.Path.{◌≡◌, refl, ap, ◌∙◌}
-use mathlib.Core.List.{List, ◌∷◌}
+use mathlib.Core.List.{List, ◌∷◌, append-nil}
 use Prim.Native.Nat.{ℕ, zero, suc, ◌+◌, ◌-◌, ◌*◌, ◌^◌, ◌≤◌, ◌<◌}
 use native.Mathlib.Nat.{add-zero, pow-suc, pow-le-pow_right}
 use native.Mathlib.Numerals.{add-one}
 use native.Mathlib.Omega.{arith}
 use lib.Ieee.{Float}
-use lib.ListN.{length, get_or, set, take, drop, length-set}
-use lib.Seq.{sets, drop-cons}
+use lib.ListN.{length, get_or, set, take, drop, length-set, drop_of_length-le}
+use lib.Seq.{sets, sets-eq, drop-cons, get_or-take, get_or-drop, length-take-le}
+use Rattle.std.proofs.Common.{length-drop}
 use Rattle.numbers.specs.Number.{number_of}
 use Rattle.operands_file.specs.Operands.{big_endian, pattern_at, numbers_at}
 
 -- so many bytes of a pattern joined
-pub record Joining (bytes : List ℕ) (at pattern i : ℕ) : Type 0 where
-  pub within : i ≤ 8
+pub record Joining (items : List ℕ) (pattern i : ℕ) : Type 0 where
   pub small : pattern < 256 ^ i
-  pub joined : big_endian pattern (take (8 - i) (drop (at + i) bytes)) ≡ pattern_at bytes at
+  pub joined : big_endian pattern (drop i items) ≡ big_endian 0 items
 
-pub joining_none : (bytes : List ℕ) (at : ℕ) → Joining bytes at 0 0
-unfolding pattern_at
-joining_none bytes at = record { within = omega arith; small = omega arith; joined = rw (add-zero at) }
+pub joining_none : (items : List ℕ) → Joining items 0 0
+joining_none items = record { small = omega arith; joined = refl }
 
-module _ {bytes : List ℕ} {at pattern i : ℕ} (s : Joining bytes at pattern i) where
+module _ {items : List ℕ} {pattern i : ℕ} (s : Joining items pattern i) where
   pub joining_small : i < 8 → pattern < 72057594037927936
   joining_small h = omega (arith, s.small, pow-le-pow_right {n = 256} (omega arith) {i = i} {j = 7} (omega arith))
 
-  pub joining_more : at + 8 ≤ length bytes → i < 8 → get_or bytes (at + i) 0 < 256 → Joining bytes at (pattern * 256 + get_or bytes (at + i) 0) (i + 1)
-  joining_more r h b =
-      let e : 8 - i ≡ suc (8 - (i + 1)) = omega arith in
-      let f : at + i + 1 ≡ at + (i + 1) = omega arith in
-      let k : at + i < length bytes = omega arith in
-      let next : drop (at + i) bytes ≡ get_or bytes (at + i) 0 ∷ drop (at + i + 1) bytes = rw (add-one, drop-cons bytes (at + i) 0) in
+  pub joining_more : i < length items → get_or items i 0 < 256 → Joining items (pattern * 256 + get_or items i 0) (i + 1)
+  joining_more h b =
+      let next : drop i items ≡ get_or items i 0 ∷ drop (i + 1) items = rw (add-one, drop-cons items i 0) in
       record {
-        within = omega arith;
         small = rw (add-one i, pow-suc 256 i) (omega (arith, s.small));
-        joined = rw (e, next, f) at s.joined;
+        joined = rw next at s.joined;
       }
 
-  pub joining_all : 8 ≤ i → pattern ≡ pattern_at bytes at
-  joining_all h = let e : i ≡ 8 = omega (arith, s.within) in rw e at s.joined
+  pub joining_all : length items ≤ i → pattern ≡ big_endian 0 items
+  joining_all h = rw (drop_of_length-le items h) at s.joined
+
+-- a byte of a pattern's bytes is one of the file's
+pub pattern_byte : (bytes : List ℕ) (at i : ℕ) → ((k : ℕ) → get_or bytes k 0 < 256) → i < 8 → get_or (take (at + 8 - at) (drop at bytes)) i 0 < 256
+pattern_byte bytes at i small h = rw (get_or-take (at + 8 - at) (drop at bytes) i 0 (omega arith), get_or-drop at bytes i 0) (small (at + i))
+
+pub pattern_length : (bytes : List ℕ) (at : ℕ) → at + 8 ≤ length bytes → length (take (at + 8 - at) (drop at bytes)) ≡ 8
+pattern_length bytes at h = length-take-le (at + 8 - at) (drop at bytes) (omega (arith, length-drop at bytes)) ∙ omega arith
 
 pub length-numbers : (count : ℕ) (bytes : List ℕ) (at : ℕ) → length (numbers_at count bytes at) ≡ count
 length-numbers zero bytes at = refl
@@ -64,5 +66,10 @@ module _ {bytes : List ℕ} {cells₀ : List Float} {count : ℕ} {cells : List 
         laid = rw (add-one i) (rw (e, f, add-one i) at s.laid);
       }
 
-  pub laying_all : count ≤ i → cells ≡ sets cells₀ 0 (numbers_at count bytes 0)
-  laying_all h = let e : count - i ≡ 0 = omega arith in rw e at s.laid
+  pub laying_all : count ≤ i → length cells₀ ≡ count → cells ≡ numbers_at count bytes 0
+  laying_all h n =
+      let e : count - i ≡ 0 = omega arith in
+      let c : cells ≡ sets cells₀ 0 (numbers_at count bytes 0) = rw e at s.laid in
+      let m = length-numbers count bytes 0 in
+      let h : length cells₀ ≤ 0 + count = omega arith in
+      c ∙ rw (sets-eq (numbers_at count bytes 0) cells₀ 0 (omega arith), m, drop_of_length-le cells₀ h, append-nil)

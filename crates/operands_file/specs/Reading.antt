@@ -1,8 +1,13 @@
 -- THE READER OF AN OPERANDS FILE (document 01, "The report program"): what is refused, and what is stored.
 use Rattle.std.specs.Prelude.{cond, List, ◌++◌, ℕ, ◌*◌, ◌/◌, ltb, eqb, Float, length, drop}
-use Rattle.words.specs.declared.Verdict.{Verdict}
-use Rattle.operands_file.specs.declared.OperandsRead.{OperandsRead}
+use Rattle.words.specs.Check.{Verdict}
 use Rattle.operands_file.specs.Operands.{pattern_size, operands_limit, operands_in}
+
+-- the answer of a read: a refusal number, 0 for accepted, with its place; and how many numbers were stored
+pub record OperandsRead : Type 0 where
+  pub refusal : ℕ
+  pub place : ℕ
+  pub count : ℕ
 
 -- "operands above 2,048 bytes give 4 at 2048, and a cut pattern gives 8 at its start": by the file's length, which is the place of a good one
 abbrev pub operands_verdict : (size : ℕ) → Verdict

@@ -2,29 +2,24 @@
 #![tactic(auto)]
 
 ghost use Rattle.std.specs.Prelude.{◌≡◌, ◌+◌, ◌*◌, ◌≤◌, ◌<◌, length};
-ghost use Rattle.std.proofs.lemmas.List.Edits.{sets};
-ghost use Rattle.operands_file.specs.Operands.{pattern_size, pattern_at, operands_in};
+ghost use Rattle.words.specs.Refusals.{verdict};
+ghost use Rattle.operands_file.specs.Operands.{pattern_size, pattern_at, numbers_at};
 ghost use Rattle.operands_file.specs.Reading.{operands_verdict, read_answer, read_cells};
+ghost use Rattle.operands_file.specs.Answers.{told_read};
 
-use words::{CELL_LIMIT, Verdict, refusal};
+use words::CELL_LIMIT;
+use words::refusal::{Refusal, Refused};
 
 const PATTERN_SIZE: usize = 8;
 
 // "operands above 2,048 bytes"
 const OPERANDS_LIMIT: usize = CELL_LIMIT * PATTERN_SIZE;
 
-// The reader's answer: a refusal number of 01, 0 for accepted, with its place; and how many numbers were stored.
-#[derive(Clone, Copy)]
+// What an accepted read gives: how many numbers were stored, and the file's length.
+#[derive(Clone, Copy, Debug, PartialEq, Eq)]
 pub struct OperandsRead {
-    pub refusal: u32,
-    pub place: usize,
     pub count: usize,
-}
-
-fn wide(byte: u8) -> u64
-    ensures { result ≡ byte }
-{
-    byte as u64
+    pub place: usize,
 }
 
 // A byte below those that came before it.
@@ -40,74 +35,45 @@ fn pattern_at(bytes: &[u8], at: usize) -> u64
     ensures { result ≡ pattern_at bytes.now at }
 {
     let mut pattern = 0;
-    let mut i = 0;
-    while i < PATTERN_SIZE {
-        pattern = join(pattern, wide(bytes[at + i]));
-        i += 1;
+    for byte in &bytes[at..at + PATTERN_SIZE] {
+        pattern = join(pattern, u64::from(*byte));
     }
     pattern
 }
 
-// Stores the numbers of a file, and answers how many they are.
-fn store_numbers(bytes: &[u8], cells: &mut [f64]) -> usize
-    requires { length bytes.now ≤ length cells.old * pattern_size }
-    ensures { (result ≡ length (operands_in bytes.now)) × (cells.new ≡ sets cells.old 0 (operands_in bytes.now)) }
+// Stores the numbers of a file, one for each cell lent.
+fn store_numbers(bytes: &[u8], cells: &mut [f64])
+    requires { length cells.old * pattern_size ≤ length bytes.now }
+    ensures { cells.new ≡ numbers_at (length cells.old) bytes.now 0 }
 {
-    let count = bytes.len() / PATTERN_SIZE;
-    let mut i = 0;
-    while i < count {
-        cells[i] = numbers::number_of(pattern_at(bytes, i * PATTERN_SIZE));
-        i += 1;
+    for (i, cell) in cells.iter_mut().enumerate() {
+        *cell = numbers::number_of(pattern_at(bytes, i * PATTERN_SIZE));
     }
-    count
 }
 
-// 4 for more than 256 patterns, then 8 for a cut one.
-fn verdict_of(size: usize) -> Verdict
-    ensures { result ≡ operands_verdict size }
+// 4 for more than 256 patterns, then 8 for a cut one; else the file's length.
+fn verdict_of(size: usize) -> Result<usize, Refused>
+    ensures { verdict result ≡ operands_verdict size }
 {
     if OPERANDS_LIMIT < size {
-        return Verdict {
-            refusal: refusal::CELL,
-            place: OPERANDS_LIMIT,
-        };
+        return Err(Refusal::Cell.at(OPERANDS_LIMIT));
     }
     let whole = size / PATTERN_SIZE * PATTERN_SIZE;
     if whole < size {
-        return Verdict {
-            refusal: refusal::CUT,
-            place: whole,
-        };
+        return Err(Refusal::Cut.at(whole));
     }
-    Verdict {
-        refusal: refusal::ACCEPTED,
-        place: size,
-    }
+    Ok(size)
 }
 
 // Reads a file into the lent cells: 4, then 8, then 11 where the cells are too few.
-pub fn read_operands(bytes: &[u8], cells: &mut [f64]) -> OperandsRead
-    ensures { (result ≡ read_answer bytes.now cells.old) × (cells.new ≡ read_cells bytes.now cells.old) }
+pub fn read_operands(bytes: &[u8], cells: &mut [f64]) -> Result<OperandsRead, Refused>
+    ensures { (told_read result ≡ read_answer bytes.now cells.old) × (cells.new ≡ read_cells bytes.now cells.old) }
 {
-    let verdict = verdict_of(bytes.len());
-    if verdict.refusal != 0 {
-        return OperandsRead {
-            refusal: verdict.refusal,
-            place: verdict.place,
-            count: 0,
-        };
+    let place = verdict_of(bytes.len())?;
+    let count = bytes.len() / PATTERN_SIZE;
+    if cells.len() < count {
+        return Err(Refusal::Room.at(0));
     }
-    if cells.len() < bytes.len() / PATTERN_SIZE {
-        return OperandsRead {
-            refusal: refusal::ROOM,
-            place: 0,
-            count: 0,
-        };
-    }
-    let count = store_numbers(bytes, cells);
-    OperandsRead {
-        refusal: refusal::ACCEPTED,
-        place: verdict.place,
-        count,
-    }
+    store_numbers(bytes, &mut cells[..count]);
+    Ok(OperandsRead { count, place })
 }

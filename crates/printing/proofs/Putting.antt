@@ -1,13 +1,15 @@
 -- Text put piece by piece.
 use mathlib.Core.Path.{◌≡◌, refl, sym, ap, ◌∙◌}
 use mathlib.Core.Bool.{Bool, true, false, not, cond}
-use mathlib.Core.List.{List, [], ◌∷◌, ◌++◌}
-use Prim.Native.Nat.{ℕ, suc, ◌+◌, ◌≤◌, ◌<◌}
+use mathlib.Core.List.{List, [], ◌∷◌, ◌++◌, append_assoc}
+use Prim.Native.Nat.{ℕ, suc, ◌+◌, ◌-◌, ◌≤◌, ◌<◌}
 use native.Mathlib.Nat.{add-zero}
 use native.Mathlib.Numerals.{add-one}
 use native.Mathlib.Omega.{arith}
-use lib.ListN.{length, get_or, set, drop, length-append, drop_of_length-le}
-use lib.Seq.{sets, length-sets, drop-cons}
+use lib.ListN.{length, set, take, drop, length-append}
+use lib.Seq.{sets, sets-eq, length-sets}
+use borrow.Rule.Slice.PartMut.{put_mid}
+use Rattle.std.proofs.lemmas.List.{drop-drop}
 use borrow.Author.Tests.{not-true, not-false, leb-true, le-leb}
 use Rattle.printing.specs.Put.{fits, PutIfRoom, Room, Put, PutIn}
 
@@ -47,44 +49,12 @@ module _ {a : List ℕ} {i : ℕ} where
   pub room_after : (xs : List ℕ) (byte : ℕ) → Room a i (xs ++ byte ∷ []) → {b : List ℕ} {j : ℕ} → Put a b i j xs → j < length a
   room_after xs byte r p = omega (arith, room-last xs byte r p, put-length p)
 
--- A LOOP that puts a text: what is left of it leads to the same bytes and the same end
-pub record Going (bytes₀ : List ℕ) (at₀ : ℕ) (text bytes : List ℕ) (at : ℕ) (rest : List ℕ) : Type 0 where
-  pub same : length bytes ≡ length bytes₀
-  pub room : at + length rest ≤ length bytes
-  pub ends : at + length rest ≡ at₀ + length text
-  pub laid : sets bytes at rest ≡ sets bytes₀ at₀ text
-
-module _ {bytes₀ text : List ℕ} {at₀ : ℕ} where
-  pub going_none : Room bytes₀ at₀ text → Going bytes₀ at₀ text bytes₀ at₀ text
-  going_none r = record { same = refl; room = r.fits; ends = refl; laid = refl }
-
-  module _ {bytes : List ℕ} {at : ℕ} where
-    pub going_more : (xs ys : List ℕ) → Going bytes₀ at₀ text bytes at (xs ++ ys) → {bytes' : List ℕ} {at' : ℕ} → Put bytes bytes' at at' xs
-        → Going bytes₀ at₀ text bytes' at' ys
-    going_more xs ys g {bytes'} {at'} p =
-        let n : length bytes' ≡ length bytes = put-length p in
-        record {
-          same = n ∙ g.same;
-          room = omega (arith, g.room, p.ends, length-append xs ys);
-          ends = omega (arith, g.ends, p.ends, length-append xs ys);
-          laid = rw (p.ends, p.laid) (sym (sets_append bytes at xs ys)) ∙ g.laid;
-        }
-
-    pub going_all : (rest : List ℕ) → rest ≡ [] → Going bytes₀ at₀ text bytes at rest → Put bytes₀ bytes at₀ at text
-    going_all [] e g = record { ends = omega (arith, g.ends); laid = g.laid }
-    going_all (x ∷ xs) e g = absurd (let z : ◌≡◌ {A = ℕ} 0 1 = cc in omega arith)
-
-module _ {bytes₀ : List ℕ} (text : List ℕ) {bytes : List ℕ} {at₀ : ℕ} (at i : ℕ) (g : Going bytes₀ at₀ text bytes (at + i) (drop i text)) where
-  -- the next byte of the text
-  pub going_byte : i < length text → Going bytes₀ at₀ text (set bytes (at + i) (get_or text i 0)) (at + (i + 1)) (drop (i + 1) text)
-  going_byte h =
-      let e : at + i + 1 ≡ at + (i + 1) = omega arith in
-      let next : drop i text ≡ get_or text i 0 ∷ drop (i + 1) text = rw (add-one, drop-cons text i 0) in
-      rw e at
-      (going_more (get_or text i 0 ∷ []) (drop (i + 1) text) (rw next at g) (put_one {a = bytes} {i = at + i} (get_or text i 0)))
-
-  pub going_end : length text ≤ i → Put bytes₀ bytes at₀ (at + i) text
-  going_end h = going_all (drop i text) (drop_of_length-le text h) g
+-- a text copied over as many bytes from a place on
+pub copied : {a : List ℕ} {i : ℕ} (text : List ℕ) → i + length text ≤ length a → {now : List ℕ} → now ≡ text
+    → Put a (put_mid i (i + length text - i) a now) i (i + length text) text
+copied {a} {i} text h e =
+    let k : i + length text - i ≡ length text = omega arith in
+    record { ends = refl; laid = rw (k, e) (sym (sets-eq text a i h ∙ append_assoc (take i a) text (drop (i + length text) a) ∙ ap (λ l. take i a ++ (text ++ l)) (sym (drop-drop (length text) i a)))) }
 
 -- LIMITS: texts of at most so many bytes, one after another
 module _ {a : List ℕ} {i : ℕ} where

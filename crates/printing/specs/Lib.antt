@@ -3,3 +3,4 @@ pub mod Text
 pub mod Words
 pub mod Lines
 pub mod Put
+pub mod Faults

@@ -1,7 +1,5 @@
 -- THE LINES THAT EVERY PROGRAM MAY PRINT (document 01, "The report program").
 use Rattle.std.specs.Prelude.{Bool, true, false, List, ◌++◌, ℕ}
-use Rattle.printing.specs.declared.Fault.{Fault}
-use Rattle.printing.specs.declared.Fault.TheVariants.{Nothing, Missing, Refused}
 use Rattle.printing.specs.Text.{decimal}
 use Rattle.printing.specs.Words.{stopped, missing, at, space, line_end}
 
@@ -19,6 +17,11 @@ missing_line name = stopped ++ name ++ missing ++ line_end
 
 abbrev pub refused_line : (name : List ℕ) (number place : ℕ) → List ℕ
 refused_line name number place = stopped ++ name ++ space ++ answer_text number place
+
+-- what stops a program at a file: nothing, it is missing, or a refusal number with its place
+pub data Fault : Type 0 where
+  Nothing Missing : Fault
+  Refused : (number place : ℕ) → Fault
 
 -- "Each is the only line.": at a fault its line, else what follows
 abbrev pub or_stopped : Fault → (name further : List ℕ) → List ℕ

@@ -6,10 +6,11 @@ pub mod put;
 mod room;
 pub mod stop;
 
-// What stops a program at a file: it is missing, or a refusal number of 01 with its place.
-#[derive(Clone, Copy)]
+use words::refusal::Refused;
+
+// What stops a program at a file: it is missing, or refused at a place.
+#[derive(Clone, Copy, Debug, PartialEq, Eq)]
 pub enum Fault {
-    Nothing,
     Missing,
-    Refused(u32, usize),
+    Refused(Refused),
 }

@@ -28,12 +28,9 @@ pub fn put_text(out: &mut [u8], at: usize, text: &[u8]) -> usize
     if !has_room(out.len(), at, text.len(), 0) {
         return at;
     }
-    let mut i = 0;
-    while i < text.len() {
-        out[at + i] = text[i];
-        i += 1;
-    }
-    at + i
+    let end = at + text.len();
+    out[at..end].copy_from_slice(text);
+    end
 }
 
 fn lay_decimal(out: &mut [u8], at: usize, n: usize) -> usize

@@ -6,15 +6,5 @@ ghost use Rattle.printing.specs.Put.{fits};
 pub(crate) fn has_room(size: usize, at: usize, text: usize, more: usize) -> bool
     ensures { result ≡ fits (text + more) size at }
 {
-    if size < at {
-        return false;
-    }
-    let left = size - at;
-    if left < text {
-        return false;
-    }
-    if left - text < more {
-        return false;
-    }
-    true
+    at <= size && text <= size - at && more <= size - at - text
 }

@@ -1,6 +1,7 @@
 // Stop lines (01, "The report program"): what stopped a program, each the only line that it prints.
 ghost use Rattle.std.specs.Prelude.{[]};
 ghost use Rattle.printing.specs.Lines.{missing_line, refused_line, or_stopped};
+ghost use Rattle.printing.specs.Faults.{told_fault};
 ghost use Rattle.printing.specs.Put.{PutIfRoom, stop_limit};
 
 use crate::Fault;
@@ -36,12 +37,14 @@ fn put_refused(out: &mut [u8], at: usize, name: &[u8], number: u32, place: usize
 }
 
 // The line of a fault with its name; nothing without a fault.
-pub fn put_line(out: &mut [u8], at: usize, name: &[u8], fault: Fault) -> usize
-    ensures { PutIfRoom (stop_limit name.now) out.old out.new at result (or_stopped fault name.now []) }
+pub fn put_line(out: &mut [u8], at: usize, name: &[u8], fault: Option<Fault>) -> usize
+    ensures { PutIfRoom (stop_limit name.now) out.old out.new at result (or_stopped (told_fault fault) name.now []) }
 {
     match fault {
-        Fault::Nothing => at,
-        Fault::Missing => put_missing(out, at, name),
-        Fault::Refused(number, place) => put_refused(out, at, name, number, place),
+        None => at,
+        Some(Fault::Missing) => put_missing(out, at, name),
+        Some(Fault::Refused(refused)) => {
+            put_refused(out, at, name, u32::from(refused.refusal), refused.place)
+        }
     }
 }

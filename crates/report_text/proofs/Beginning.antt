@@ -7,7 +7,7 @@ use native.Mathlib.Omega.{arith}
 use lib.ListN.{length}
 use borrow.Author.Tests.{eq-eqb, ne_eqb}
 use Rattle.words.specs.Instructions.{list_limit}
-use Rattle.words.specs.declared.Verdict.{Verdict}
+use Rattle.words.specs.Check.{Verdict}
 use Rattle.list_file.specs.declared.ListRead.{ListRead}
 use Rattle.seven_bit.specs.SevenBits.{Parsed, accepted, refused}
 use Rattle.list_file.specs.Reading.{field_at, words_at, count_refusal, list_in, answered, read_answer, read_words}

@@ -10,7 +10,7 @@ use lib.ListN.{length, drop}
 use lib.Seq.{take-append_seam}
 use borrow.Author.Tests.{eqb-true, eqb-false}
 use Rattle.words.specs.Instructions.{cell_limit}
-use Rattle.words.specs.declared.Verdict.{Verdict}
+use Rattle.words.specs.Check.{Verdict}
 use Rattle.operands_file.specs.declared.OperandsRead.{OperandsRead}
 use Rattle.operands_file.specs.Operands.{operands_in}
 use Rattle.operands_file.specs.Reading.{operands_verdict, answered_of, read_answer, read_cells}

@@ -1,8 +1,11 @@
 -- The contract of each public function determines its answer and what is lent.
-use mathlib.Core.Path.{◌≡◌}
+use mathlib.Core.Path.{◌≡◌, ap}
 use Rattle.numbers.proofs.Determined.{Determines, DeterminesLent, one_answer}
 use Rattle.seven_bit.specs.declared.Parsed as code
-use Rattle.seven_bit.specs.declared.Parsed.TheVariants.{Accepted, Refused}
+use Rattle.std.specs.Prelude.{ℕ, Result, Ok, Err}
+use Rattle.words.specs.declared.refusal.Refused.{Refused}
+use Rattle.words.proofs.Refusals.{number_exact}
+use Rattle.seven_bit.specs.SevenBits.{Parsed, accepted, refused}
 use Rattle.seven_bit.specs.Told.{told}
 use Rattle.seven_bit.proofs.number_size.Kinds as number-size-kinds
 use Rattle.seven_bit.proofs.number_size.Reads as number-size-reads
@@ -11,12 +14,21 @@ use Rattle.seven_bit.proofs.put_number.Reads as put-number-reads
 use Rattle.seven_bit.proofs.number_at.Kinds as number-at-kinds
 use Rattle.seven_bit.proofs.number_at.Reads as number-at-reads
 
--- 01's number and values tell the cases of the enum apart
-pub told-apart : (x y : code.Parsed) → told x ≡ told y → x ≡ y
-told-apart (Accepted v n) (Accepted w m) e = cc
-told-apart (Accepted v n) (Refused r p) e = cc
-told-apart (Refused r p) (Accepted w m) e = cc
-told-apart (Refused r p) (Refused s q) e = cc
+-- the first of what is told, a value or a refusal's number, and the place
+abbrev value_of : Parsed ℕ → ℕ
+value_of (accepted v n) = v
+value_of (refused r p) = r
+
+abbrev place_of : Parsed ℕ → ℕ
+place_of (accepted v n) = n
+place_of (refused r p) = p
+
+-- 01's number and values tell the cases apart
+pub told-apart : (x y : Result code.Parsed Refused) → told x ≡ told y → x ≡ y
+told-apart (Ok p) (Ok q) e = (λ i. Ok (record { value = value_of (e i); next = place_of (e i) }))
+told-apart (Ok p) (Err s) e = cc
+told-apart (Err r) (Ok q) e = cc
+told-apart (Err r) (Err s) e = (λ i. Err (record { refusal = number_exact r.refusal s.refusal (ap value_of e) i; place = place_of (e i) }))
 
 pub number_at_determined : Determines 1 number-at-kinds.ps number-at-kinds.r number-at-reads.Post
 number_at_determined κs a x y s t p q = told-apart x y (one_answer p q)

@@ -1,17 +1,17 @@
 // Numbers in groups of seven bits, low group first: read and written.
 #![tactic(auto)]
 
-ghost use Rattle.std.specs.Prelude.{◌≡◌, ◌+◌, ◌*◌, ◌<◌, length};
+ghost use Rattle.std.specs.Prelude.{◌≡◌, ◌+◌, ◌*◌, ◌<◌, length, Err};
 ghost use Rattle.seven_bit.specs.SevenBits.{group_size, group_of, number_at, bytes_of, PutNumber};
 ghost use Rattle.seven_bit.specs.Told.{told};
 
-use words::refusal;
+use words::refusal::{Refusal, Refused};
 
-// What stands at a place of a file: a value and the place after it, or a refusal number of 01 with its place.
-#[derive(Clone, Copy)]
-pub enum Parsed {
-    Accepted(u32, usize),
-    Refused(u32, usize),
+// What stands at a place of a file: a value, and the place after it.
+#[derive(Clone, Copy, Debug, PartialEq, Eq)]
+pub struct Parsed {
+    pub value: u32,
+    pub next: usize,
 }
 
 // Where another group follows.
@@ -25,12 +25,6 @@ const NUMBER_LIMIT: u32 = 65535;
 // What a third byte adds is at most the top two of a number's sixteen bits.
 const THIRD_LIMIT: u32 = 3;
 
-fn wide(byte: u8) -> u32
-    ensures { result ≡ byte }
-{
-    byte as u32
-}
-
 // A group in front of what the later ones give.
 fn join(low: u32, later: u32) -> u32
     requires { later < 65536 }
@@ -39,51 +33,60 @@ fn join(low: u32, later: u32) -> u32
     (low & GROUP) | (later << 7)
 }
 
-fn cut(at: usize) -> Parsed
-    ensures { result ≡ Parsed.Refused 8 at }
+fn cut(at: usize) -> Result<Parsed, Refused>
+    ensures { result ≡ Err (record { refusal = Refusal.Cut; place = at }) }
 {
-    Parsed::Refused(refusal::CUT, at)
+    Err(Refusal::Cut.at(at))
 }
 
-fn not_shortest(at: usize) -> Parsed
-    ensures { result ≡ Parsed.Refused 9 at }
+fn not_shortest(at: usize) -> Result<Parsed, Refused>
+    ensures { result ≡ Err (record { refusal = Refusal.Number; place = at }) }
 {
-    Parsed::Refused(refusal::NUMBER, at)
+    Err(Refusal::Number.at(at))
 }
 
 // The number at a place of a file, 8 and 9 of 01 included.
-pub fn number_at(bytes: &[u8], at: usize) -> Parsed
+pub fn number_at(bytes: &[u8], at: usize) -> Result<Parsed, Refused>
     ensures { told result ≡ number_at bytes.now at }
 {
     if bytes.len() <= at {
         return cut(at);
     }
     let left = bytes.len() - at;
-    let low = wide(bytes[at]);
+    let low = u32::from(bytes[at]);
     if low < FOLLOWS {
-        return Parsed::Accepted(low, at + 1);
+        return Ok(Parsed {
+            value: low,
+            next: at + 1,
+        });
     }
     if left <= 1 {
         return cut(at);
     }
-    let middle = wide(bytes[at + 1]);
+    let middle = u32::from(bytes[at + 1]);
     if middle < FOLLOWS {
         if middle == 0 {
             return not_shortest(at);
         }
-        return Parsed::Accepted(join(low, middle), at + 2);
+        return Ok(Parsed {
+            value: join(low, middle),
+            next: at + 2,
+        });
     }
     if left <= 2 {
         return cut(at);
     }
-    let high = wide(bytes[at + 2]);
+    let high = u32::from(bytes[at + 2]);
     if high == 0 {
         return not_shortest(at);
     }
     if THIRD_LIMIT < high {
         return not_shortest(at);
     }
-    Parsed::Accepted(join(low, join(middle, high)), at + 3)
+    Ok(Parsed {
+        value: join(low, join(middle, high)),
+        next: at + 3,
+    })
 }
 
 // A group that another follows.

@@ -7,14 +7,19 @@ use native.Mathlib.Nat.{not-suc-le-zero, le_of_suc-le-suc}
 use native.Mathlib.Omega.{arith}
 use lib.Dec.{eqb}
 use lib.ListN.{length, get_or, drop, length-drop}
-use borrow.Author.Tests.{eqb-true, eq-eqb}
+use lib.Ieee.{Float}
+use borrow.Author.Tests.{eqb-true, eq-eqb, leb-true}
+use Rattle.words.specs.declared.Areas.{Areas}
 use Rattle.theory_machine.specs.Rows.{all_of, all_below, sum}
 use Rattle.theory_machine.specs.Tags.{buffer_count, station_count, store_count}
 use Rattle.theory_machine.specs.Instruction.{Instruction, no_instruction, load, store, copy, cell_arithmetic, register_arithmetic, decode}
 use Rattle.theory_machine.specs.Machine.{Buffer, free_buffer, waiting, full, Station, free_station, holding, done, StoreBuffer, free_store, live, Machine, Shape, buffer_at, station_at, store_at, is_free_buffer, is_free_station, is_free_store}
-use Rattle.theory_machine.specs.GoodOrder.{nothing_live}
+use Rattle.theory_machine.specs.GoodOrder.{nothing_live, clauses, good_order}
+use Rattle.theory_machine.specs.Entries.{entry_refusal}
+use Rattle.theory_machine.specs.Binary64.{binary64}
 use Rattle.theory_machine.specs.Count.{instruction_left, words_left, count_left, buffer_left, station_left, store_left}
 use Rattle.theory_machine.proofs.Rows.{and_i, all_of-at, all_below-at, all_below_of}
+use Rattle.theory_machine.proofs.Checks.{order_passed}
 use Rattle.steps_left.specs.SlotsLeft.{SlotsLeft}
 use Rattle.good_order.proofs.BySlots.{both_ways}
 use Rattle.steps_left.proofs.Sums.{sum_bound}
@@ -48,6 +53,11 @@ module _ {B : Type 0} (w : B → ℕ) (free : B → Bool) (is : (b : B) → eqb 
 
   pub free_row : (n : ℕ) (l : List B) → length l ≡ n → all_below n (λ i. free (get_or l i d)) ≡ true → sum w l ≡ 0
   free_row n l e f = none_of l (λ i h. all_below-at n (λ i. free (get_or l i d)) f i (omega arith))
+
+-- an accepted machine's next place is in the list
+pub next_within : (words : List ℕ) (areas : Areas) (m : Machine Float) → entry_refusal binary64 words areas m ≡ 0 → m.next ≤ length words
+unfolding good_order
+next_within words areas m e = leb-true m.next (length words) (all_of-at (clauses binary64 words areas m) (order_passed binary64 words areas m e) 0)
 
 module _ {A : Type 0} where
   pub buffer_weighs : (b : Buffer A) → buffer_left b ≤ 5

@@ -9,8 +9,8 @@ use lib.Ieee.{Float}
 use borrow.Author.Tests.{lt-ltb, le-ltb}
 use Rattle.theory_machine.specs.Machine.{Lent}
 use Rattle.operands_file.specs.Operands.{operands_limit}
-use Rattle.printing.specs.declared.Fault.{Fault}
-use Rattle.printing.specs.declared.Fault.TheVariants.{Nothing}
+use Rattle.printing.specs.Lines.{Fault}
+use Rattle.printing.specs.Lines.{Nothing}
 use Rattle.printing.specs.Text.{decimal}
 use Rattle.printing.specs.Words as common
 use Rattle.printing.specs.Lines.{or_stopped}

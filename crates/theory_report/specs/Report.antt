@@ -3,14 +3,14 @@ use Rattle.std.specs.Prelude.{cond, List, [], ◌∷◌, ◌++◌, ℕ, ◌+◌,
 use Rattle.std.proofs.Math.Option.{Option, none, some}
 use Rattle.numbers.specs.Number.{pattern_of}
 use Rattle.words.specs.Instructions.{cell_limit, list_limit}
-use Rattle.words.specs.declared.Verdict.{Verdict}
+use Rattle.words.specs.Check.{Verdict}
 use Rattle.words.specs.Check.{list_check}
 use Rattle.seven_bit.specs.SevenBits.{Parsed, accepted, refused}
 use Rattle.list_file.specs.Reading.{list_in}
 use Rattle.operands_file.specs.Operands.{operands_in}
 use Rattle.operands_file.specs.Reading.{operands_verdict}
-use Rattle.printing.specs.declared.Fault.{Fault}
-use Rattle.printing.specs.declared.Fault.TheVariants.{Nothing, Missing, Refused}
+use Rattle.printing.specs.Lines.{Fault}
+use Rattle.printing.specs.Lines.{Nothing, Missing, Refused}
 use Rattle.printing.specs.Text.{decimal, pattern}
 use Rattle.printing.specs.Words.{space, line_end}
 use Rattle.printing.specs.Lines.{answer_text, count_line, or_stopped}

@@ -4,8 +4,8 @@ use Rattle.std.proofs.Math.Option.{Option, none, some}
 use Rattle.seven_bit.specs.SevenBits.{accepted, refused}
 use Rattle.list_file.specs.Reading.{list_in}
 use Rattle.theory_machine.specs.Machine.{Lent}
-use Rattle.printing.specs.declared.Fault.{Fault}
-use Rattle.printing.specs.declared.Fault.TheVariants.{Nothing, Missing, Refused}
+use Rattle.printing.specs.Lines.{Fault}
+use Rattle.printing.specs.Lines.{Nothing, Missing, Refused}
 use Rattle.printing.specs.Ascii.{ascii}
 use Rattle.printing.specs.Text.{decimal}
 use Rattle.theory_report.specs.Report.{file_fault, list_fault, operands_fault, schedule_fault, areas_fault, bytes_in, lent_of_files, run_of, ran_text, report_text}

@@ -3,6 +3,7 @@ use mathlib.Core.Path.{◌≡◌}
 use mathlib.Core.List.{List}
 use Prim.Native.Nat.{ℕ, ◌+◌, ◌≤◌, ◌<◌}
 use native.Mathlib.Numerals.{add-one}
+use native.Mathlib.Omega.{arith}
 use lib.ListN.{length, get_or, drop, drop_of_length-le}
 use lib.Seq.{drop-cons}
 use borrow.Author.Tests.{eq-eqb, ne_eqb}
@@ -18,5 +19,5 @@ module _ (areas : Areas) (words : List ℕ) (place : ℕ) where
       → first_bad areas place (drop place words) ≡ first_bad areas (place + 1) (drop (place + 1) words)
   bad_later h e = rw (drop-cons words place 0, eq-eqb _ 0 e, add-one)
 
-  pub bad_none : length words ≤ place → first_bad areas place (drop place words) ≡ record { refusal = 0; place = place }
-  bad_none h = rw (drop_of_length-le words h)
+  pub bad_none : length words ≤ place → place ≤ length words → first_bad areas place (drop place words) ≡ record { refusal = 0; place = length words }
+  bad_none h g = let e : place ≡ length words = omega arith in rw (drop_of_length-le words h, e)

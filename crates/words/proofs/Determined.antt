@@ -1,9 +1,16 @@
 -- The contract of each public function determines its answer.
 use Rattle.numbers.proofs.Determined.{Determines, one_answer}
+use Rattle.words.proofs.Refusals.{answer_exact, verdict_exact}
 use Rattle.words.proofs.check_list.Kinds as check-list-kinds
 use Rattle.words.proofs.check_list.Reads as check-list-reads
 use Rattle.words.proofs.check_list_against.Kinds as check-list-against-kinds
 use Rattle.words.proofs.check_list_against.Reads as check-list-against-reads
+use Rattle.words.proofs.Areas.of.Kinds as of-kinds
+use Rattle.words.proofs.Areas.of.Reads as of-reads
+use Rattle.words.proofs.refusal.placed.Kinds as placed-kinds
+use Rattle.words.proofs.refusal.placed.Reads as placed-reads
+use Rattle.words.proofs.refusal.Refusal.at.Kinds as at-kinds
+use Rattle.words.proofs.refusal.Refusal.at.Reads as at-reads
 use Rattle.words.proofs.form_of.Kinds as form-of-kinds
 use Rattle.words.proofs.form_of.Reads as form-of-reads
 use Rattle.words.proofs.operand_of.Kinds as operand-of-kinds
@@ -34,19 +41,28 @@ pub form_of_determined : Determines 0 form-of-kinds.ps form-of-kinds.r form-of-r
 form_of_determined κs a x y s t = one_answer
 
 pub operation_refusal_determined : Determines 0 operation-refusal-kinds.ps operation-refusal-kinds.r operation-refusal-reads.Post
-operation_refusal_determined κs a x y s t = one_answer
+operation_refusal_determined κs a x y s t = λ p q. answer_exact x y (one_answer p q)
 
 pub register_refusal_determined : Determines 0 register-refusal-kinds.ps register-refusal-kinds.r register-refusal-reads.Post
-register_refusal_determined κs a x y s t = one_answer
+register_refusal_determined κs a x y s t = λ p q. answer_exact x y (one_answer p q)
 
 pub operand_refusal_determined : Determines 0 operand-refusal-kinds.ps operand-refusal-kinds.r operand-refusal-reads.Post
-operand_refusal_determined κs a x y s t = one_answer
+operand_refusal_determined κs a x y s t = λ p q. answer_exact x y (one_answer p q)
 
 pub word_refusal_determined : Determines 0 word-refusal-kinds.ps word-refusal-kinds.r word-refusal-reads.Post
-word_refusal_determined κs a x y s t = one_answer
+word_refusal_determined κs a x y s t = λ p q. answer_exact x y (one_answer p q)
 
 pub check_list_against_determined : Determines 1 check-list-against-kinds.ps check-list-against-kinds.r check-list-against-reads.Post
-check_list_against_determined κs a x y s t = one_answer
+check_list_against_determined κs a x y s t = λ p q. verdict_exact x y (one_answer p q)
 
 pub check_list_determined : Determines 1 check-list-kinds.ps check-list-kinds.r check-list-reads.Post
-check_list_determined κs a x y s t = one_answer
+check_list_determined κs a x y s t = λ p q. verdict_exact x y (one_answer p q)
+
+pub refusal_at_determined : Determines 0 at-kinds.ps at-kinds.r at-reads.Post
+refusal_at_determined κs a x y s t = one_answer
+
+pub placed_determined : Determines 0 placed-kinds.ps placed-kinds.r placed-reads.Post
+placed_determined κs a x y s t = one_answer
+
+pub areas_of_determined : Determines 2 of-kinds.ps of-kinds.r of-reads.Post
+areas_of_determined κs a x y s t = one_answer

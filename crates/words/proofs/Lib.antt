@@ -5,5 +5,6 @@ pub mod First
 pub mod Known
 pub mod Operands
 pub mod Passes
+pub mod Refusals
 pub mod Registers
 pub mod Table

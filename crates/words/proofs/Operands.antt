@@ -1,5 +1,5 @@
 -- The operand's refusal, by what the operand is held to: a register's number or a cell's.
-use mathlib.Core.Path.{◌≡◌, refl, sym, ◌∙◌}
+use mathlib.Core.Path.{◌≡◌, refl, sym, ap, ◌∙◌}
 use mathlib.Core.Bool.{Bool, true, false, cond, not, ◌&&◌, true≢false}
 use mathlib.Core.Logic.{inl, inr, ⊎_elim, ◌≢◌}
 use mathlib.Core.List.{List, [], ◌∷◌}
@@ -13,6 +13,9 @@ use borrow.Author.Tests.{ltb-true, ltb-false, lt-ltb, le-ltb, le-leb}
 use Rattle.words.specs.declared.Form.{Form}
 use Rattle.words.specs.declared.Form.TheVariants.{Unknown, LD, LDR, CellArithmetic, RegisterArithmetic, STD}
 use Rattle.words.specs.declared.Areas.{Areas}
+use Rattle.words.specs.declared.refusal.Refusal.{Refusal}
+use Rattle.words.specs.declared.refusal.Refusal.TheVariants.{Register, Cell}
+use Rattle.words.specs.Refusals.{number}
 use Rattle.words.specs.Instructions.{table, form_of, is_cell, last_operation, cell_limit}
 use Rattle.words.specs.Operands.{held_refusal}
 use Rattle.words.specs.Check.{operation_refusal, register_refusal, cell_refusal, operand_refusal}
@@ -89,19 +92,24 @@ module _ (x area : ℕ) where
   passes false m e h g z = rw (lt-ltb x cell_limit g, lt-ltb x area h)
 
 -- what the operand is held to, as the code chose it: a limit, and an odd bit
-pub record Judged (x : ℕ) (register : Bool) (area limit odd number : ℕ) : Type 0 where
-  pub above : limit ≤ x → number ≡ held_refusal x register area
-  pub beyond : x < limit → cell_limit ≤ x → number ≡ held_refusal x register area
-  pub uneven : (bit_and x odd ≡ 0 → ⊥) → number ≡ held_refusal x register area
+pub record Judged (x : ℕ) (register : Bool) (area limit odd : ℕ) (refusal : Refusal) : Type 0 where
+  pub above : limit ≤ x → number refusal ≡ held_refusal x register area
+  pub beyond : x < limit → cell_limit ≤ x → number refusal ≡ held_refusal x register area
+  pub uneven : (bit_and x odd ≡ 0 → ⊥) → number refusal ≡ held_refusal x register area
   pub good : x < limit → x < cell_limit → bit_and x odd ≡ 0 → 0 ≡ held_refusal x register area
 
 odd_bit : (x : ℕ) (r : Bool) → bit_and x (cond r 1 0) ≡ cond r (x % 2) 0
 odd_bit x true = and_mask x 1
 odd_bit x false = and_zero_r x
 
-pub judged : (x : ℕ) (r : Bool) (area : ℕ) → {limit odd number : ℕ} → limit ≡ cond r 8 area → odd ≡ cond r 1 0 → number ≡ cond r 3 4 → Judged x r area limit odd number
-judged x r area {limit} {odd} {number} el eo en =
+number_chosen : (r : Bool) → number (cond r Register Cell) ≡ cond r 3 4
+number_chosen true = refl
+number_chosen false = refl
+
+pub judged : (x : ℕ) (r : Bool) (area : ℕ) → {limit odd : ℕ} {refusal : Refusal} → limit ≡ cond r 8 area → odd ≡ cond r 1 0 → refusal ≡ cond r Register Cell → Judged x r area limit odd refusal
+judged x r area {limit} {odd} {refusal} el eo er =
     let m : bit_and x odd ≡ cond r (x % 2) 0 = rw eo (odd_bit x r) in
+    let en : number refusal ≡ cond r 3 4 = ap number er ∙ number_chosen r in
     record {
       above = λ h. en ∙ above_limit x area r (rw el at h);
       beyond = λ h g. en ∙ above_cells x area r (rw el at h) g;

@@ -6,7 +6,7 @@ use Prim.Native.Nat.{ℕ, zero, suc}
 use native.Mathlib.Omega.{arith}
 use lib.Dec.{eqb}
 use borrow.Author.Tests.{ne_eqb}
-use Rattle.words.specs.declared.Verdict.{Verdict}
+use Rattle.words.specs.Check.{Verdict}
 use Rattle.words.specs.declared.Areas.{Areas}
 use Rattle.words.specs.Instructions.{operation_field, r1_field, operand_field, form_of}
 use Rattle.words.specs.Check.{operation_refusal, register_refusal, operand_refusal, first_of, word_refusal, first_bad}

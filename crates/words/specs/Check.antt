@@ -2,9 +2,13 @@
 use Rattle.std.specs.Prelude.{cond, ◌&&◌, List, [], ◌∷◌, ℕ, suc, ltb, leb, eqb, length}
 use Rattle.words.specs.declared.Form.{Form}
 use Rattle.words.specs.declared.Form.TheVariants.{Unknown, LD, LDR, CellArithmetic, RegisterArithmetic, STD}
-use Rattle.words.specs.declared.Verdict.{Verdict}
 use Rattle.words.specs.declared.Areas.{Areas}
 use Rattle.words.specs.Instructions.{operation_field, r1_field, operand_field, last_operation, form_of, is_register, is_cell, cell_limit, list_limit}
+
+-- the answer of a check of a list: a refusal's number with its place
+pub record Verdict : Type 0 where
+  pub refusal : ℕ
+  pub place : ℕ
 
 -- 2: "operation not 1 to 11"
 unfoldable pub operation_refusal : ℕ → ℕ

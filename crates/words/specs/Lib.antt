@@ -1,3 +1,4 @@
 pub mod Instructions
 pub mod Check
 pub mod Operands
+pub mod Refusals

@@ -1,11 +1,13 @@
 // Words and lists of document 01: fields, the instruction table, and the check of a word and of a list.
 #![tactic(auto)]
 
-ghost use Rattle.std.specs.Prelude.{◌≡◌, cond};
+ghost use Rattle.std.specs.Prelude.{◌≡◌, cond, length};
 ghost use Rattle.words.specs.Instructions.{operation_field, r1_field, operand_field, form_of};
 ghost use Rattle.words.specs.Operands.{held_refusal};
 ghost use Rattle.words.specs.Check.{operation_refusal, register_refusal, operand_refusal, word_refusal, list_check, list_check_alone};
+ghost use Rattle.words.specs.Refusals.{answer_number, verdict};
 
+use crate::refusal::{Refusal, Refused, placed};
 use numbers::Operation;
 
 pub mod refusal;
@@ -20,6 +22,17 @@ pub const CELL_LIMIT: usize = 256;
 pub struct Areas {
     pub operands: usize,
     pub results: usize,
+}
+
+impl Areas {
+    pub fn of(operands: &[f64], results: &[f64]) -> Areas
+        ensures { result ≡ record { operands = length operands.now; results = length results.now } }
+    {
+        Areas {
+            operands: operands.len(),
+            results: results.len(),
+        }
+    }
 }
 
 // Without areas only the cell limit speaks.
@@ -45,13 +58,6 @@ pub enum Form {
     CellArithmetic(Operation),
     RegisterArithmetic(Operation),
     STD,
-}
-
-// The answer of a check: a refusal number of 01, 0 for accepted, with its place.
-#[derive(Clone, Copy)]
-pub struct Verdict {
-    pub refusal: u32,
-    pub place: usize,
 }
 
 pub fn operation_of(word: u32) -> u32
@@ -92,115 +98,89 @@ pub fn form_of(operation: u32) -> Form
     }
 }
 
-pub fn operation_refusal(operation: u32) -> u32
-    ensures { result ≡ operation_refusal operation }
+pub fn operation_refusal(operation: u32) -> Result<(), Refusal>
+    ensures { answer_number result ≡ operation_refusal operation }
 {
-    if operation < 1 {
-        return refusal::OPERATION;
+    match operation {
+        1..=LAST_OPERATION => Ok(()),
+        _ => Err(Refusal::Operation),
     }
-    if LAST_OPERATION < operation {
-        return refusal::OPERATION;
-    }
-    refusal::ACCEPTED
 }
 
-pub fn register_refusal(register: u32) -> u32
-    ensures { result ≡ register_refusal register }
+pub fn register_refusal(register: u32) -> Result<(), Refusal>
+    ensures { answer_number result ≡ register_refusal register }
 {
     match register {
-        0 | 2 | 4 | 6 => refusal::ACCEPTED,
-        _ => refusal::REGISTER,
+        0 | 2 | 4 | 6 => Ok(()),
+        _ => Err(Refusal::Register),
     }
 }
 
-fn chosen(test: bool, yes: usize, no: usize) -> usize
+fn chosen<T: Copy>(test: bool, yes: T, no: T) -> T
     ensures { result ≡ cond test yes no }
 {
-    if test {
-        return yes;
-    }
-    no
+    if test { yes } else { no }
 }
 
 // An operand's refusal, held to a register's number or to the cells of an area. What it is held to is chosen first, and then tested in one way: a
 // branch on the kind of operand would be mispredicted at every other word of a mixed list.
-fn held_refusal(operand: u32, register: bool, area: usize) -> u32
-    ensures { result ≡ held_refusal operand register area }
+fn held_refusal(operand: u32, register: bool, area: usize) -> Result<(), Refusal>
+    ensures { answer_number result ≡ held_refusal operand register area }
 {
     let at = operand as usize;
     let limit = chosen(register, REGISTER_LIMIT, area);
     let odd = chosen(register, 1, 0);
-    let number = chosen(register, refusal::REGISTER as usize, refusal::CELL as usize) as u32;
+    let refusal = chosen(register, Refusal::Register, Refusal::Cell);
     if limit <= at {
-        return number;
+        return Err(refusal);
     }
     if CELL_LIMIT <= at {
-        return number;
+        return Err(refusal);
     }
     if at & odd != 0 {
-        return number;
+        return Err(refusal);
     }
-    refusal::ACCEPTED
+    Ok(())
 }
 
 // The operand's own refusal, against the areas. An unknown operation has none; of the known ones those that take
 // a register are the even ones.
-pub fn operand_refusal(operation: u32, operand: u32, areas: Areas) -> u32
-    ensures { result ≡ operand_refusal areas (form_of operation) operand }
+pub fn operand_refusal(operation: u32, operand: u32, areas: Areas) -> Result<(), Refusal>
+    ensures { answer_number result ≡ operand_refusal areas (form_of operation) operand }
 {
-    if operation_refusal(operation) != 0 {
-        return refusal::ACCEPTED;
+    if operation_refusal(operation).is_err() {
+        return Ok(());
     }
     let area = chosen(operation == STORE, areas.results, areas.operands);
     held_refusal(operand, operation % 2 == 0, area)
 }
 
 // Inside a word 2, then R1's 3, then the operand's 3 or 4.
-pub fn word_refusal(word: u32, areas: Areas) -> u32
-    ensures { result ≡ word_refusal areas word }
+pub fn word_refusal(word: u32, areas: Areas) -> Result<(), Refusal>
+    ensures { answer_number result ≡ word_refusal areas word }
 {
     let operation = operation_of(word);
-    let unknown = operation_refusal(operation);
-    if unknown != 0 {
-        return unknown;
-    }
-    let wrong = register_refusal(r1_of(word));
-    if wrong != 0 {
-        return wrong;
-    }
+    operation_refusal(operation)?;
+    register_refusal(r1_of(word))?;
     operand_refusal(operation, operand_of(word), areas)
 }
 
-// The list against its areas: 1 at place 4,096, else the first bad word with its place, else 0 at the length.
-pub fn check_list_against(words: &[u32], areas: Areas) -> Verdict
-    ensures { result ≡ list_check areas words.now }
+// The list against its areas: 1 at place 4,096, else the first bad word with its place, else the length.
+pub fn check_list_against(words: &[u32], areas: Areas) -> Result<usize, Refused>
+    ensures { verdict result ≡ list_check areas words.now }
 {
     if LIST_LIMIT < words.len() {
-        return Verdict {
-            refusal: refusal::LIST,
-            place: LIST_LIMIT,
-        };
+        return Err(Refusal::List.at(LIST_LIMIT));
     }
-    let mut place = 0;
-    while place < words.len() {
-        let bad = word_refusal(words[place], areas);
-        if bad != 0 {
-            return Verdict {
-                refusal: bad,
-                place,
-            };
-        }
-        place += 1;
+    for (place, word) in words.iter().enumerate() {
+        placed(word_refusal(*word, areas), place)?;
     }
-    Verdict {
-        refusal: refusal::ACCEPTED,
-        place,
-    }
+    Ok(words.len())
 }
 
 // The list alone: no areas are lent, so only the cell limit speaks.
-pub fn check_list(words: &[u32]) -> Verdict
-    ensures { result ≡ list_check_alone words.now }
+pub fn check_list(words: &[u32]) -> Result<usize, Refused>
+    ensures { verdict result ≡ list_check_alone words.now }
 {
     check_list_against(words, NO_AREAS)
 }

@@ -1,17 +1,14 @@
-use mathlib.Core.Path.{◌∙◌}
-use native.Mathlib.Omega.{arith}
+use mathlib.Core.Path.{◌≡◌}
+use mathlib.Core.Bool.{true, false}
+use borrow.Author.Rules.{rules}
+use borrow.Author.Tests.{tests}
+use Rattle.std.proofs.lemmas.Iterator.{first_from_Range}
 use Rattle.machine_free.proofs.Tested.{station_test, station_tested}
-use Rattle.machine_free.proofs.Search.{looking_none, looking_more, looking_found, looking_end}
+use Rattle.machine_free.proofs.Search.{lowest}
 use Rattle.machine_free.proofs.lowest_station.Goals as goal
 
-pub loop-i-init : goal.loop-i-init
-loop-i-init c = looking_none (station_test c.args.o c.args.ss) 5
-
-pub returns-then-station_serves : goal.returns-then-station_serves
-returns-then-station_serves c = looking_found (station_test c.args.o c.args.ss) 5 _ c.loop-i.invariant (omega arith) (station_tested c.args.o c.args.ss c.loop-i.i _ c.station_serves.ensures ∙ c.if-station_serves.true)
-
-pub loop-i-preserved : goal.loop-i-preserved
-loop-i-preserved c = looking_more (station_test c.args.o c.args.ss) 5 _ c.loop-i.invariant (omega arith) (station_tested c.args.o c.args.ss c.loop-i.i _ c.station_serves.ensures ∙ c.if-station_serves.false)
-
 pub returns : goal.returns
-returns c = looking_end (station_test c.args.o c.args.ss) 5 _ c.loop-i.invariant (omega arith)
+returns c =
+    let a = c.args in
+    lowest (station_test a.o a.ss) 5 c.find.result
+    (first_from_Range _ _ _ c.find.result (λ i. station_test a.o a.ss i ≡ true) (λ i. station_test a.o a.ss i ≡ false) c.find.ensures.ran (λ x q k. station_tested a.o a.ss x true (search (rules, tests))) (λ x q k. let e : station_test a.o a.ss x ≡ false = station_tested a.o a.ss x false (search (rules, tests)) in search (rules, tests)))

@@ -1,17 +1,15 @@
-use mathlib.Core.Path.{◌∙◌}
-use native.Mathlib.Omega.{arith}
-use Rattle.machine_free.proofs.Tested.{store_test, store_tested}
-use Rattle.machine_free.proofs.Search.{looking_none, looking_more, looking_found, looking_end}
+use mathlib.Core.Path.{◌≡◌}
+use mathlib.Core.Bool.{true, false}
+use borrow.Author.Rules.{rules}
+use borrow.Author.Tests.{tests}
+use Rattle.std.proofs.lemmas.Iterator.{IsFirst-from_position, YieldsList-from_slice}
+use Rattle.theory_machine.specs.Machine.{is_free_store}
+use Rattle.machine_parts.specs.View.{view_store}
+use Rattle.machine_parts.specs.declared.StoreState.TheVariants.{Free}
+use Rattle.machine_free.proofs.Search.{lowest_of_row}
 use Rattle.machine_free.proofs.lowest_store.Goals as goal
 
-pub loop-i-init : goal.loop-i-init
-loop-i-init c = looking_none (store_test c.args.ts) 3
-
-pub returns-then-store_free : goal.returns-then-store_free
-returns-then-store_free c = looking_found (store_test c.args.ts) 3 _ c.loop-i.invariant (omega arith) (store_tested c.args.ts _ _ c.store_free.ensures ∙ c.if-store_free.true)
-
-pub loop-i-preserved : goal.loop-i-preserved
-loop-i-preserved c = looking_more (store_test c.args.ts) 3 _ c.loop-i.invariant (omega arith) (store_tested c.args.ts _ _ c.store_free.ensures ∙ c.if-store_free.false)
-
 pub returns : goal.returns
-returns c = looking_end (store_test c.args.ts) 3 _ c.loop-i.invariant (omega arith)
+returns c =
+    lowest_of_row view_store is_free_store (record { state = Free }) c.args.ts 3 (search rules) c.position.result
+    (IsFirst-from_position _ _ c.position.result (λ b. is_free_store (view_store b) ≡ true) (λ b. is_free_store (view_store b) ≡ false) c.position.ensures.ran (YieldsList-from_slice c.args.ts cc) (λ x q k. search (rules, tests)) (λ x q k. search (rules, tests)))

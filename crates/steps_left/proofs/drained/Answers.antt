@@ -4,8 +4,8 @@ use Rattle.steps_left.proofs.drained.Goals as goal
 
 pub returns-then-m-words : goal.returns-then-m-words
 unfolding drained
-returns-then-m-words c = rw (ne_eqb _ _ c.if-m-words.true)
+returns-then-m-words c = rw (eq-eqb _ _ c.if-m-words.true, ← c.slots_left.ensures.at_rest)
 
-pub returns : goal.returns
+pub returns-else-m-words : goal.returns-else-m-words
 unfolding drained
-returns c = rw (eq-eqb _ _ c.if-m-words.false, ← c.slots_left.ensures.at_rest)
+returns-else-m-words c = rw (ne_eqb _ _ c.if-m-words.false)

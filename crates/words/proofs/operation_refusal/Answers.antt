@@ -1,15 +1,16 @@
+use native.Mathlib.Omega.{arith}
 use borrow.Author.Tests.{le-leb, lt-leb}
 use Rattle.words.specs.Check.{operation_refusal}
 use Rattle.words.proofs.operation_refusal.Goals as goal
 
-pub returns-then-operation-lt1 : goal.returns-then-operation-lt1
+pub returns-in-1-to-11 : goal.returns-in-1-to-11
 unfolding operation_refusal
-returns-then-operation-lt1 c = rw (lt-leb _ _ c.if-operation-lt1.true)
+returns-in-1-to-11 c = rw (le-leb 1 c.args.operation (omega arith), le-leb c.args.operation 11 (omega arith))
 
-pub returns-then-operation-gt-LAST_OPERATION : goal.returns-then-operation-gt-LAST_OPERATION
+pub returns-in_default : goal.returns-in_default
 unfolding operation_refusal
-returns-then-operation-gt-LAST_OPERATION c = rw (le-leb _ _ c.if-operation-lt1.false, lt-leb _ _ c.if-operation-gt-LAST_OPERATION.true)
+returns-in_default c = rw (lt-leb 1 c.args.operation (omega arith))
 
-pub returns : goal.returns
+pub returns-in_default-2 : goal.returns-in_default-2
 unfolding operation_refusal
-returns c = rw (le-leb _ _ c.if-operation-lt1.false, le-leb _ _ c.if-operation-gt-LAST_OPERATION.false)
+returns-in_default-2 c = rw (le-leb 1 c.args.operation (omega arith), lt-leb c.args.operation 11 (omega arith))

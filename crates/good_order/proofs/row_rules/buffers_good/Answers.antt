@@ -1,33 +1,19 @@
-use mathlib.Core.Bool.{not}
-use mathlib.Core.Path.{ap}
-use native.Mathlib.Omega.{arith}
+use mathlib.Core.Path.{◌≡◌}
+use mathlib.Core.Bool.{Bool, true, false}
+use lib.Ieee.{Float}
 use borrow.Author.Rules.{rules}
-use Rattle.good_order.proofs.Loops.{passed_none, passed_more, passed_stop, passed_all}
-use Rattle.machine_parts.specs.declared.BufferState.TheVariants as buffer
+use borrow.Author.Tests.{tests}
+use Rattle.std.proofs.lemmas.Iterator.{cases_from_all, YieldsList-from_slice}
+use Rattle.theory_machine.specs.Machine.{Buffer, free_buffer}
+use Rattle.machine_parts.specs.View.{view_buffer}
+use Rattle.machine_parts.specs.declared.BufferState.TheVariants.{Free}
+use Rattle.good_order.specs.SlotRules.{buffer_good}
+use Rattle.good_order.proofs.Loops.{row_seen}
 use Rattle.good_order.proofs.row_rules.buffers_good.Goals as goal
 
-pub loop-i-init : goal.loop-i-init
-loop-i-init c = passed_none
-
-pub offset_bounds-buffers-i : goal.offset_bounds-buffers-i
-offset_bounds-buffers-i c = omega arith
-
-pub bounds-buffers-i : goal.bounds-buffers-i
-bounds-buffers-i c = omega arith
-
-pub returns-then-not-buffer_good : goal.returns-then-not-buffer_good
-returns-then-not-buffer_good c =
-    passed_stop (record { state = buffer.Free }) (search rules) c.loop-i.invariant c.loop-i-test.true c.buffer_good.ensures (ap not c.if-not-buffer_good.true)
-
-pub overflow_step-i : goal.overflow_step-i
-overflow_step-i c = omega arith
-
-pub loop-i-smaller : goal.loop-i-smaller
-loop-i-smaller c = omega arith
-
-pub loop-i-preserved : goal.loop-i-preserved
-loop-i-preserved c =
-    passed_more (record { state = buffer.Free }) (search rules) c.loop-i.invariant c.loop-i-test.true c.buffer_good.ensures (ap not c.if-not-buffer_good.false)
-
 pub returns : goal.returns
-returns c = passed_all c.loop-i.invariant c.loop-i-test.false
+returns c =
+    let row = c.args.buffers in
+    let good : Buffer Float → Bool = buffer_good c.args.next c.args.operands in
+    row_seen view_buffer good (record { state = Free }) (free_buffer) row 6 (search rules) c.all.result
+    (cases_from_all _ _ c.all.result (λ x. good (view_buffer x) ≡ true) (λ x. good (view_buffer x) ≡ false) c.all.ensures.ran (YieldsList-from_slice row cc) (λ x q k. search (rules, tests)) (λ x q k. search (rules, tests)))

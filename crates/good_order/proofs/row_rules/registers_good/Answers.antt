@@ -1,34 +1,20 @@
-use mathlib.Core.Bool.{not}
-use mathlib.Core.Path.{ap}
-use native.Mathlib.Omega.{arith}
-use lib.Ieee.{nan}
+use mathlib.Core.Path.{◌≡◌}
+use mathlib.Core.Bool.{Bool, true, false}
+use lib.Ieee.{Float, nan}
 use borrow.Author.Rules.{rules}
-use Rattle.good_order.proofs.Loops.{passed_none, passed_more, passed_stop, passed_all}
+use borrow.Author.Tests.{tests}
+use Rattle.std.proofs.lemmas.Iterator.{cases_from_all, YieldsList-from_slice}
+use Rattle.theory_machine.specs.Machine.{Operand, num}
+use Rattle.theory_machine.specs.Binary64.{binary64}
+use Rattle.machine_parts.specs.View.{view_register}
 use Rattle.machine_parts.specs.declared.Operand.TheVariants.{Number}
+use Rattle.good_order.specs.SlotRules.{place_in, register_good}
+use Rattle.good_order.proofs.Loops.{row_seen}
 use Rattle.good_order.proofs.row_rules.registers_good.Goals as goal
 
-pub loop-i-init : goal.loop-i-init
-loop-i-init c = passed_none
-
-pub offset_bounds-registers-i : goal.offset_bounds-registers-i
-offset_bounds-registers-i c = omega arith
-
-pub bounds-registers-i : goal.bounds-registers-i
-bounds-registers-i c = omega arith
-
-pub returns-then-not-register_good : goal.returns-then-not-register_good
-returns-then-not-register_good c =
-    passed_stop (record { operand = Number nan }) (search rules) c.loop-i.invariant c.loop-i-test.true c.register_good.ensures (ap not c.if-not-register_good.true)
-
-pub overflow_step-i : goal.overflow_step-i
-overflow_step-i c = omega arith
-
-pub loop-i-smaller : goal.loop-i-smaller
-loop-i-smaller c = omega arith
-
-pub loop-i-preserved : goal.loop-i-preserved
-loop-i-preserved c =
-    passed_more (record { operand = Number nan }) (search rules) c.loop-i.invariant c.loop-i-test.true c.register_good.ensures (ap not c.if-not-register_good.false)
-
 pub returns : goal.returns
-returns c = passed_all c.loop-i.invariant c.loop-i-test.false
+returns c =
+    let row = c.args.registers in
+    let good : Operand Float → Bool = register_good (place_in c.args.places.now) in
+    row_seen view_register good (record { operand = Number nan }) (num binary64.nought) row 4 (search rules) c.all.result
+    (cases_from_all _ _ c.all.result (λ x. good (view_register x) ≡ true) (λ x. good (view_register x) ≡ false) c.all.ensures.ran (YieldsList-from_slice row cc) (λ x q k. search (rules, tests)) (λ x q k. search (rules, tests)))

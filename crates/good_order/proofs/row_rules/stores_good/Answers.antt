@@ -1,33 +1,19 @@
-use mathlib.Core.Bool.{not}
-use mathlib.Core.Path.{ap}
-use native.Mathlib.Omega.{arith}
+use mathlib.Core.Path.{◌≡◌}
+use mathlib.Core.Bool.{Bool, true, false}
+use lib.Ieee.{Float}
 use borrow.Author.Rules.{rules}
-use Rattle.good_order.proofs.Loops.{passed_none, passed_more, passed_stop, passed_all}
-use Rattle.machine_parts.specs.declared.StoreState.TheVariants as store
+use borrow.Author.Tests.{tests}
+use Rattle.std.proofs.lemmas.Iterator.{cases_from_all, YieldsList-from_slice}
+use Rattle.theory_machine.specs.Machine.{StoreBuffer, free_store}
+use Rattle.machine_parts.specs.View.{view_store}
+use Rattle.machine_parts.specs.declared.StoreState.TheVariants.{Free}
+use Rattle.good_order.specs.SlotRules.{place_in, store_good}
+use Rattle.good_order.proofs.Loops.{row_seen}
 use Rattle.good_order.proofs.row_rules.stores_good.Goals as goal
 
-pub loop-i-init : goal.loop-i-init
-loop-i-init c = passed_none
-
-pub offset_bounds-stores-i : goal.offset_bounds-stores-i
-offset_bounds-stores-i c = omega arith
-
-pub bounds-stores-i : goal.bounds-stores-i
-bounds-stores-i c = omega arith
-
-pub returns-then-not-store_good : goal.returns-then-not-store_good
-returns-then-not-store_good c =
-    passed_stop (record { state = store.Free }) (search rules) c.loop-i.invariant c.loop-i-test.true c.store_good.ensures (ap not c.if-not-store_good.true)
-
-pub overflow_step-i : goal.overflow_step-i
-overflow_step-i c = omega arith
-
-pub loop-i-smaller : goal.loop-i-smaller
-loop-i-smaller c = omega arith
-
-pub loop-i-preserved : goal.loop-i-preserved
-loop-i-preserved c =
-    passed_more (record { state = store.Free }) (search rules) c.loop-i.invariant c.loop-i-test.true c.store_good.ensures (ap not c.if-not-store_good.false)
-
 pub returns : goal.returns
-returns c = passed_all c.loop-i.invariant c.loop-i-test.false
+returns c =
+    let row = c.args.stores in
+    let good : StoreBuffer Float → Bool = store_good (place_in c.args.places.now) c.args.next c.args.results in
+    row_seen view_store good (record { state = Free }) (free_store) row 3 (search rules) c.all.result
+    (cases_from_all _ _ c.all.result (λ x. good (view_store x) ≡ true) (λ x. good (view_store x) ≡ false) c.all.ensures.ran (YieldsList-from_slice row cc) (λ x q k. search (rules, tests)) (λ x q k. search (rules, tests)))
