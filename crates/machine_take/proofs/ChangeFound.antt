@@ -1,10 +1,11 @@
 -- The change that each kind of step comes to.
 use mathlib.Core.Path.{◌≡◌, sym, ap, ◌∙◌}
 use Prim.Native.Nat.{ℕ}
-use native.Mathlib.Omega.{arith}
 use lib.Ieee.{Float}
 use lib.ListN.{get_or, get_or-map}
 use Rattle.std.specs.Prelude.{Some, None, Result, Ok, Err}
+use Rattle.words.specs.declared.refusal.Refusal.{Refusal}
+use Rattle.words.specs.declared.refusal.Refusal.TheVariants.{Code}
 use Rattle.theory_machine.specs.Machine as theory
 use Rattle.theory_machine.specs.Machine.{Lent}
 use Rattle.theory_machine.specs.Binary64.{binary64}
@@ -25,16 +26,16 @@ use Rattle.machine_take.specs.declared.change.Change.TheVariants.{Issues}
 use Rattle.machine_take.specs.Changes.{Makes, Changes, IssuesNext}
 
 module _ {L : Lent Float} {code : ℕ} where
-  pub no_step : ReadsAs code None → (m : Machine) → Changes L m code (Err 5)
-  no_step read m = record { is = sym (performed read L (view m)); within = λ z. omega arith }
+  pub no_step : ReadsAs code None → (m : Machine) → Changes L m code (Err Code)
+  no_step read m = record { is = sym (performed read L (view m)); within = tt }
 
   module _ {s r : Step} (read : ReadsAs code (Some r)) (e : r ≡ s) (m : Machine) where
-    pub found : {c : Result Change ℕ} {f : theory.Machine Float → Answer Float} → Makes c f → f (view m) ≡ perform_step binary64 L (view m) (view_known s)
+    pub found : {c : Result Change Refusal} {f : theory.Machine Float → Answer Float} → Makes c f → f (view m) ≡ perform_step binary64 L (view m) (view_known s)
         → Changes L m code c
     found h q = record { is = h.is (view m) ∙ q ∙ rw e at (sym (performed read L (view m))); within = h.within m.next }
 
   module _ {r : Step} (read : ReadsAs code (Some r)) (e : r ≡ step.Issue) (m : Machine) where
-    pub issue_refused : {number : ℕ} → IssuesNext m L (Err number) → Changes L m code (Err number)
+    pub issue_refused : {refusal : Refusal} → IssuesNext m L (Err refusal) → Changes L m code (Err refusal)
     issue_refused h = record { is = h.is ∙ rw e at (sym (performed read L (view m))); within = h.within }
 
     pub issue_found : {i : Issue} → IssuesNext m L (Ok i) → Changes L m code (Ok (Issues i))

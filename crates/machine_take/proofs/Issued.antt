@@ -6,7 +6,8 @@ use lib.Ieee.{Float}
 use lib.ListN.{length}
 use borrow.Author.Tests.{lt-leb, eq-eqb}
 use Rattle.std.specs.Prelude.{Result}
-use Rattle.std.proofs.lemmas.Result.{MatchResult-weaker}
+use Rattle.std.proofs.lemmas.Result.{IfOk-weaker}
+use Rattle.words.specs.declared.refusal.Refusal.{Refusal}
 use Rattle.words.specs.declared.Areas.{Areas}
 use Rattle.words.specs.declared.Form.{Form}
 use Rattle.words.specs.declared.Form.TheVariants.{Unknown, LD, LDR, CellArithmetic, RegisterArithmetic, STD}
@@ -17,7 +18,7 @@ use Rattle.theory_machine.specs.Binary64.{binary64}
 use Rattle.theory_machine.specs.Issue.{word_at, refusal_of}
 use Rattle.theory_machine.proofs.Words.{WellFormed, word_formed}
 use Rattle.machine_parts.specs.declared.Machine.{Machine}
-use Rattle.machine_take.specs.Changes.{instruction_for, RegistersIn, IssueOf, IssuesNext}
+use Rattle.machine_take.specs.Changes.{InRows, instruction_for, RegistersIn, IssueOf, IssuesNext}
 use Rattle.machine_take.specs.declared.issue.Issue.{Issue}
 
 -- WHICH INSTRUCTION, by the word's form: r is R1's index
@@ -58,8 +59,8 @@ module _ {L : Lent Float} {place r operand : ℕ} {f : Form} (w : Reading L plac
       (rw decoded at (word_formed (areas_of L) (word_at binary64 L place) w.accepted))
 
 module _ (m : Machine) {L : Lent Float} {r operand : ℕ} {f : Form} (w : Reading L m.next r operand f) where
-  pub issue_goes : length L.words < 2 ^ 64 → (c : Result Issue ℕ) → IssueOf m (instruction_for f r operand) c → IssuesNext m L c
+  pub issue_goes : length L.words < 2 ^ 64 → (c : Result Issue Refusal) → IssueOf m (instruction_for f r operand) c → IssuesNext m L c
   issue_goes fits c h = record {
     is = rw (lt-leb (length L.words) m.next w.in_list, eq-eqb _ 0 w.accepted, decoded w) h.is;
-    within = MatchResult-weaker c h.within (λ i p. (omega (arith, w.in_list), p)) (λ n z. z);
+    within = IfOk-weaker c InRows _ (λ i p. (omega (arith, w.in_list), p)) h.within;
   }

@@ -10,15 +10,18 @@ use lib.Dec.{eqb}
 use lib.Ieee.{Float}
 use lib.ListN.{length}
 use borrow.Author.Tests.{le-leb, lt-leb, ne_eqb}
-use Rattle.std.specs.Prelude.{Ok, Err}
+use Rattle.std.specs.Prelude as std
+use Rattle.std.specs.Prelude.{Ok, Err, Some, None, is_some}
+use Rattle.words.specs.declared.refusal.Refusal.{Refusal}
+use Rattle.words.specs.Refusals.{number}
+use Rattle.words.proofs.Refusals.{number_real}
 use Rattle.seven_bit.specs.SevenBits.{accepted, refused, number_at}
 use Rattle.theory_machine.specs.Machine.{Lent, Machine, Record}
 use Rattle.theory_machine.specs.Binary64.{binary64}
 use Rattle.theory_machine.specs.Issue.{Answer, is_taken}
 use Rattle.theory_machine.specs.Steps.{perform}
-use Rattle.machine_parts.specs.declared.Record as the
-use Rattle.machine_parts.specs.declared.Released.TheVariants.{Nothing, One}
-use Rattle.machine_parts.specs.View.{view_record}
+use Rattle.machine_parts.specs.declared.Record as parts
+use Rattle.machine_parts.specs.View.{view_released}
 use Rattle.machine_take.proofs.Forwards.{moves_on}
 use Rattle.machine_take.specs.Changes.{answered, in_room}
 use Rattle.machine_take.specs.Taking.{Taken, ended_at, by_number, by_release, after_step, take_from}
@@ -81,22 +84,32 @@ module _ (L : Lent Float) (room : Bool) (schedule : List ℕ) where
               let t = turn_on h.turns h.enough h.same in
               (t.0, (t.1.0, rw (read, after_room m steps place next (λ m. take_from L room schedule t.0 m (suc steps) next) (perform binary64 L m code)) at t.1.1))
 
-          pub step_stops : {number : ℕ} → (number ≡ 0 → ⊥) → answered (Err number) m ≡ in_room room m (perform binary64 L m code) → ended_at m steps place number ≡ all
-          step_stops {number} z q = rw (← q, ne_eqb number 0 z) at after_code.1.1
+          pub step_stops : (r : Refusal) → answered (Err r) m ≡ in_room room m (perform binary64 L m code) → ended_at m steps place (number r) ≡ all
+          step_stops r q = rw (← q, ne_eqb (number r) 0 (number_real r)) at after_code.1.1
 
-          pub step_goes : {n : Machine Float} → answered (Ok Nothing) n ≡ in_room room m (perform binary64 L m code) → Here n (steps + 1) next
-          step_goes q =
-              let t = after_code in
-              record {
-                turns = t.0;
-                enough = omega (arith, t.1.0, moves_on schedule place read);
-                same = rw add-one (rw (← q) at t.1.1);
-                few = omega (arith, h.few, moves_on schedule place read);
-              }
+          module _ {n : Machine Float} (released : std.Option parts.Record) (q : answered (Ok released) n ≡ in_room room m (perform binary64 L m code)) where
+            pub step_goes : is_some released ≡ false → Here n (steps + 1) next
+            step_goes e = go released q e
+              where
+                go : (o : std.Option parts.Record) → answered (Ok o) n ≡ in_room room m (perform binary64 L m code) → is_some o ≡ false → Here n (steps + 1) next
+                go None q e =
+                    let t = after_code in
+                    record {
+                      turns = t.0;
+                      enough = omega (arith, t.1.0, moves_on schedule place read);
+                      same = rw add-one (rw (← q) at t.1.1);
+                      few = omega (arith, h.few, moves_on schedule place read);
+                    }
+                go (Some r) q e = cc
 
-          pub release_stops : {n : Machine Float} {r : the.Record} → answered (Ok (One r)) n ≡ in_room room m (perform binary64 L m code)
-              → record { machine = n; steps = steps + 1; place = next; refusal = 0; released = some (view_record r) } ≡ all
-          release_stops q = rw add-one (rw (← q) at after_code.1.1)
+            pub release_stops : is_some released ≡ true
+                → record { machine = n; steps = steps + 1; place = next; refusal = 0; released = view_released released } ≡ all
+            release_stops e = go released q e
+              where
+                go : (o : std.Option parts.Record) → answered (Ok o) n ≡ in_room room m (perform binary64 L m code) → is_some o ≡ true
+                    → record { machine = n; steps = steps + 1; place = next; refusal = 0; released = view_released o } ≡ all
+                go None q e = cc
+                go (Some r) q e = rw add-one (rw (← q) at after_code.1.1)
 
 -- from the start
 pub begins : (L : Lent Float) (room : Bool) (schedule : List ℕ) (m : Machine Float) (steps from : ℕ) → steps ≤ from

@@ -1,5 +1,6 @@
 -- What only the contracts of private functions cite: a change that the code has found out, as the theory's answer of a step.
-use Rattle.std.specs.Prelude.{◌≡◌, ◌≢◌, ℕ, ◌+◌, ◌<◌, ◌^◌, Bool, cond, Result, Ok, Err, MatchResult, Float}
+use Rattle.std.specs.Prelude as std
+use Rattle.std.specs.Prelude.{◌≡◌, ℕ, ◌+◌, ◌<◌, ◌^◌, Bool, cond, Result, Ok, Err, IfOk, Float, length}
 use Rattle.std.proofs.Math.Option.{some}
 use Rattle.theory_machine.specs.Tags.{register_count, buffer_count, station_count, store_count, buffer_tag, station_tag}
 use Rattle.theory_machine.specs.Machine.{Machine, Lent, free_buffer, full, free_station, done, free_store, put_buffer, put_station, put_store}
@@ -7,11 +8,13 @@ use Rattle.theory_machine.specs.Binary64.{binary64}
 use Rattle.theory_machine.specs.Issue.{Answer, refused, taken, is_taken, loaded, copied, with_cell, with_register, storing, issue_of, issue_next}
 use Rattle.theory_machine.specs.Steps.{granted, perform}
 use Rattle.theory_machine.specs.Instruction.{Instruction, no_instruction, load, store, copy, cell_arithmetic, register_arithmetic, index_of}
+use Rattle.words.specs.declared.refusal.Refusal.{Refusal}
+use Rattle.words.specs.Refusals.{number, answer_number}
 use Rattle.words.specs.declared.Form.{Form}
 use Rattle.words.specs.declared.Form.TheVariants.{Unknown, LD, LDR, CellArithmetic, RegisterArithmetic, STD}
 use Rattle.machine_parts.specs.declared.Machine as code
-use Rattle.machine_parts.specs.declared.Released.{Released}
-use Rattle.machine_parts.specs.View.{view, view_record, view_released}
+use Rattle.machine_parts.specs.declared.Record as parts
+use Rattle.machine_parts.specs.View.{view, view_record, released_by}
 use Rattle.machine_take.specs.declared.issue.Issue.{Issue}
 use Rattle.machine_take.specs.declared.issue.Issue.TheVariants.{Loads, TakesCell, Copies, TakesRegister, Stores}
 use Rattle.machine_take.specs.declared.change.Change.{Change}
@@ -26,9 +29,6 @@ issued m (TakesCell o r c b s) = with_cell binary64 m o r c b s
 issued m (Copies r x) = copied binary64 m r x
 issued m (TakesRegister o r x s) = with_register binary64 m o r x s
 issued m (Stores r c t) = storing binary64 m r c t
-
-abbrev pub done_with : Machine Float → Released → Answer Float
-done_with m r = record { refusal = 0; machine = m; released = view_released r }
 
 abbrev pub changed : Machine Float → Change → Answer Float
 changed m (Issues i) = taken (issued m i)
@@ -55,28 +55,25 @@ Within next (BufferGives b x) = b < buffer_count
 Within next (StationGives s x) = s < station_count
 Within next (Releases t r) = t < store_count
 
--- WHAT IS FOUND OUT: a change, or a refusal, which is never 0
-abbrev pub Sound : {A : Type 0} → (A → Type 0) → Result A ℕ → Type 0
-Sound within r = MatchResult r within (λ number. number ≢ 0)
-
+-- WHAT IS FOUND OUT, of a machine: something that makes an answer, or a refusal
 module _ {A : Type 0} (made : A → Answer Float) (m : Machine Float) where
-  abbrev pub answer : Result A ℕ → Answer Float
+  abbrev pub answer : Result A Refusal → Answer Float
   answer (Ok c) = made c
-  answer (Err number) = refused m number
+  answer (Err r) = refused m (number r)
 
 -- it is what f makes of any machine
-pub record Makes (r : Result Change ℕ) (f : Machine Float → Answer Float) : Type 0 where
+pub record Makes (r : Result Change Refusal) (f : Machine Float → Answer Float) : Type 0 where
   pub is : (m : Machine Float) → answer (changed m) m r ≡ f m
-  pub within : (next : ℕ) → Sound (Within next) r
+  pub within : (next : ℕ) → IfOk r (Within next)
 
 -- it is that of one step of machine m with this code
-pub record Changes (L : Lent Float) (m : code.Machine) (code : ℕ) (r : Result Change ℕ) : Type 0 where
+pub record Changes (L : Lent Float) (m : code.Machine) (code : ℕ) (r : Result Change Refusal) : Type 0 where
   pub is : answer (changed (view m)) (view m) r ≡ perform binary64 L (view m) code
-  pub within : Sound (Within m.next) r
+  pub within : IfOk r (Within m.next)
 
 -- ONE STEP: a release wants room for its record
-abbrev pub answered : Result Released ℕ → Machine Float → Answer Float
-answered r m = answer (done_with m) m r
+abbrev pub answered : Result (std.Option parts.Record) Refusal → Machine Float → Answer Float
+answered o m = record { refusal = answer_number o; machine = m; released = released_by o }
 
 abbrev pub in_room : Bool → Machine Float → Answer Float → Answer Float
 in_room room m a = cond (is_taken a) (by_release a.released a (λ r. cond room a (refused m 11))) a
@@ -102,10 +99,10 @@ RegistersIn (cell_arithmetic o r c) = r < register_count
 RegistersIn (register_arithmetic o r x) = (r < register_count) × (x < register_count)
 
 -- the issue of instruction i to machine m, of the word at the next place
-pub record IssueOf (m : code.Machine) (i : Instruction) (r : Result Issue ℕ) : Type 0 where
+pub record IssueOf (m : code.Machine) (i : Instruction) (r : Result Issue Refusal) : Type 0 where
   pub is : answer (λ i. taken (issued (view m) i)) (view m) r ≡ issue_of binary64 (view m) i
-  pub within : Sound InRows r
+  pub within : IfOk r InRows
 
-pub record IssuesNext (m : code.Machine) (L : Lent Float) (r : Result Issue ℕ) : Type 0 where
+pub record IssuesNext (m : code.Machine) (L : Lent Float) (r : Result Issue Refusal) : Type 0 where
   pub is : answer (λ i. taken (issued (view m) i)) (view m) r ≡ issue_next binary64 L (view m)
-  pub within : Sound (λ i. (m.next + 1 < 2 ^ 64) × InRows i) r
+  pub within : IfOk r (λ i. (m.next + 1 < 2 ^ 64) × InRows i)

@@ -12,7 +12,7 @@ use machine_parts::{
     StoreState, Worked,
 };
 use machine_slots::code::{Step, step_of};
-use words::refusal;
+use words::refusal::Refusal;
 
 #[derive(Clone, Copy)]
 pub enum Change {
@@ -35,12 +35,12 @@ fn operand_cell(operands: &[f64], cell: usize) -> f64
     }
 }
 
-fn arrival(b: usize, old: Buffer, operands: &[f64]) -> Result<Change, u32>
+fn arrival(b: usize, old: Buffer, operands: &[f64]) -> Result<Change, Refusal>
     requires { b < buffer_count }
     ensures { Makes result (λ m. arrive binary64 (cells_alone operands.now) m b (view_buffer old)) }
 {
     let BufferState::Waiting(fetch) = old.state else {
-        return Err(refusal::NOT_NOW);
+        return Err(Refusal::NotNow);
     };
     let number = operand_cell(operands, fetch.cell);
     Ok(Change::Arrives(
@@ -52,15 +52,15 @@ fn arrival(b: usize, old: Buffer, operands: &[f64]) -> Result<Change, u32>
     ))
 }
 
-fn completion(u: usize, old: Station) -> Result<Change, u32>
+fn completion(u: usize, old: Station) -> Result<Change, Refusal>
     requires { u < station_count }
     ensures { Makes result (λ m. complete binary64 (cells_alone []) m u (view_station old)) }
 {
     let StationState::Holding(work) = old.state else {
-        return Err(refusal::NOT_NOW);
+        return Err(Refusal::NotNow);
     };
     let (Operand::Number(sink), Operand::Number(source)) = (work.sink, work.source) else {
-        return Err(refusal::NOT_NOW);
+        return Err(Refusal::NotNow);
     };
     let number = numbers::computed(work.operation, sink, source);
     Ok(Change::Completes(
@@ -72,35 +72,35 @@ fn completion(u: usize, old: Station) -> Result<Change, u32>
     ))
 }
 
-fn buffer_grant(b: usize, old: Buffer) -> Result<Change, u32>
+fn buffer_grant(b: usize, old: Buffer) -> Result<Change, Refusal>
     requires { b < buffer_count }
     ensures { Makes result (λ m. grant_buffer m b (view_buffer old)) }
 {
     let BufferState::Full(fetched) = old.state else {
-        return Err(refusal::NOT_NOW);
+        return Err(Refusal::NotNow);
     };
     Ok(Change::BufferGives(b, fetched.number))
 }
 
-fn station_grant(u: usize, old: Station) -> Result<Change, u32>
+fn station_grant(u: usize, old: Station) -> Result<Change, Refusal>
     requires { u < station_count }
     ensures { Makes result (λ m. grant_station m u (view_station old)) }
 {
     let StationState::Done(worked) = old.state else {
-        return Err(refusal::NOT_NOW);
+        return Err(Refusal::NotNow);
     };
     Ok(Change::StationGives(u, worked.number))
 }
 
-fn release(t: usize, old: StoreBuffer) -> Result<Change, u32>
+fn release(t: usize, old: StoreBuffer) -> Result<Change, Refusal>
     requires { t < store_count }
     ensures { Makes result (λ m. release_store m t (view_store old)) }
 {
     let StoreState::Live(pending) = old.state else {
-        return Err(refusal::NOT_NOW);
+        return Err(Refusal::NotNow);
     };
     let Operand::Number(number) = pending.operand else {
-        return Err(refusal::NOT_NOW);
+        return Err(Refusal::NotNow);
     };
     Ok(Change::Releases(
         t,
@@ -118,11 +118,11 @@ pub(crate) fn change_of(
     words: &[u32],
     operands: &[f64],
     results: usize,
-) -> Result<Change, u32>
+) -> Result<Change, Refusal>
     ensures { Changes (lent_with words.now operands.now results) m.now code result }
 {
     let Some(step) = step_of(code) else {
-        return Err(refusal::CODE);
+        return Err(Refusal::Code);
     };
     match step {
         Step::Issue => Ok(Change::Issues(next_issue(m, words, operands, results)?)),

@@ -2,10 +2,11 @@
 ghost use Rattle.machine_parts.specs.View.{lent_with};
 ghost use Rattle.machine_take.specs.Changes.{instruction_for, RegistersIn, IssueOf, IssuesNext};
 
-use machine_free::{FreeSlot, cell_live, lowest_buffer, lowest_station, lowest_store};
+use machine_free::{cell_live, lowest_buffer, lowest_station, lowest_store};
 use machine_parts::{Machine, Register};
 use numbers::Operation;
-use words::{Areas, Form, refusal};
+use words::refusal::Refusal;
+use words::{Areas, Form, word_refusal};
 
 // What an issue takes, by index from 0.
 #[derive(Clone, Copy)]
@@ -21,37 +22,33 @@ pub enum Issue {
 }
 
 // By the word's form, R1's index and the operand.
-fn slots_for(m: &Machine, form: Form, r: usize, operand: u32) -> Result<Issue, u32>
+fn slots_for(m: &Machine, form: Form, r: usize, operand: u32) -> Result<Issue, Refusal>
     requires { RegistersIn (instruction_for form r operand) }
     ensures { IssueOf m.now (instruction_for form r operand) result }
 {
     let cell = operand as usize;
     match form {
-        Form::Unknown => Err(refusal::OPERATION),
-        Form::LD => match lowest_buffer(m.buffers) {
-            FreeSlot::Nothing => Err(refusal::NOT_NOW),
-            FreeSlot::At(b) => Ok(Issue::Loads(r, cell, b)),
-        },
+        Form::Unknown => Err(Refusal::Operation),
+        Form::LD => {
+            let b = lowest_buffer(m.buffers).ok_or(Refusal::NotNow)?;
+            Ok(Issue::Loads(r, cell, b))
+        }
         Form::LDR => Ok(Issue::Copies(r, Register::index_of(operand))),
-        Form::CellArithmetic(o) => match lowest_buffer(m.buffers) {
-            FreeSlot::Nothing => Err(refusal::NOT_NOW),
-            FreeSlot::At(b) => match lowest_station(m.stations, o) {
-                FreeSlot::Nothing => Err(refusal::NOT_NOW),
-                FreeSlot::At(s) => Ok(Issue::TakesCell(o, r, cell, b, s)),
-            },
-        },
-        Form::RegisterArithmetic(o) => match lowest_station(m.stations, o) {
-            FreeSlot::Nothing => Err(refusal::NOT_NOW),
-            FreeSlot::At(s) => Ok(Issue::TakesRegister(o, r, Register::index_of(operand), s)),
-        },
+        Form::CellArithmetic(o) => {
+            let b = lowest_buffer(m.buffers).ok_or(Refusal::NotNow)?;
+            let u = lowest_station(m.stations, o).ok_or(Refusal::NotNow)?;
+            Ok(Issue::TakesCell(o, r, cell, b, u))
+        }
+        Form::RegisterArithmetic(o) => {
+            let u = lowest_station(m.stations, o).ok_or(Refusal::NotNow)?;
+            Ok(Issue::TakesRegister(o, r, Register::index_of(operand), u))
+        }
         Form::STD => {
             if cell_live(m.stores, cell) {
-                return Err(refusal::NOT_NOW);
+                return Err(Refusal::NotNow);
             }
-            match lowest_store(m.stores) {
-                FreeSlot::Nothing => Err(refusal::NOT_NOW),
-                FreeSlot::At(t) => Ok(Issue::Stores(r, cell, t)),
-            }
+            let t = lowest_store(m.stores).ok_or(Refusal::NotNow)?;
+            Ok(Issue::Stores(r, cell, t))
         }
     }
 }
@@ -62,23 +59,18 @@ pub(crate) fn next_issue(
     words: &[u32],
     operands: &[f64],
     results: usize,
-) -> Result<Issue, u32>
+) -> Result<Issue, Refusal>
     ensures { IssuesNext m.now (lent_with words.now operands.now results) result }
 {
     if words.len() <= m.next {
-        return Err(refusal::NOT_NOW);
+        return Err(Refusal::NotNow);
     }
     let word = words[m.next];
-    let bad = words::word_refusal(
-        word,
-        Areas {
-            operands: operands.len(),
-            results,
-        },
-    );
-    if bad != refusal::ACCEPTED {
-        return Err(bad);
-    }
+    let areas = Areas {
+        operands: operands.len(),
+        results,
+    };
+    word_refusal(word, areas)?;
     let r = Register::index_of(words::r1_of(word));
     let form = words::form_of(words::operation_of(word));
     slots_for(m, form, r, words::operand_of(word))

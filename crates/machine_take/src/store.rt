@@ -2,12 +2,12 @@
 ghost use Rattle.std.specs.Prelude.{◌≡◌, ◌+◌, ◌<◌, ◌^◌};
 ghost use Rattle.theory_machine.specs.Steps.{granted};
 ghost use Rattle.machine_parts.specs.View.{view};
-ghost use Rattle.machine_take.specs.Changes.{issued, InRows, changed, Within, done_with};
+ghost use Rattle.machine_take.specs.Changes.{issued, InRows, changed, Within, answered};
 
 use crate::change::Change;
 use crate::issue::Issue;
 use machine_bus::give;
-use machine_parts::{BufferState, Machine, Operand, Released, StationState, StoreState, Tag};
+use machine_parts::{BufferState, Machine, Operand, Record, StationState, StoreState, Tag};
 use machine_slots::made;
 
 // "every register, station and store operand with that tag takes the number"
@@ -55,9 +55,9 @@ fn store_issue(m: &mut Machine, issue: Issue)
 
 // And what is released.
 #[tactic(auto, using(crate::proofs::Stored::stored))]
-pub(crate) fn store(m: &mut Machine, change: Change) -> Released
+pub(crate) fn store(m: &mut Machine, change: Change) -> Option<Record>
     requires { Within m.old.next change }
-    ensures { done_with (view m.new) result ≡ changed (view m.old) change }
+    ensures { answered (Ok result) (view m.new) ≡ changed (view m.old) change }
 {
     match change {
         Change::Issues(issue) => store_issue(m, issue),
@@ -73,8 +73,8 @@ pub(crate) fn store(m: &mut Machine, change: Change) -> Released
         }
         Change::Releases(t, record) => {
             m.stores[t].state = StoreState::Free;
-            return Released::One(record);
+            return Some(record);
         }
     }
-    Released::Nothing
+    None
 }
