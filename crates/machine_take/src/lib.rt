@@ -2,7 +2,7 @@
 // entry: crate machine_steps has those, which test it.
 #![tactic(auto)]
 
+mod apply;
 mod change;
 mod issue;
-mod store;
 pub mod taking;

@@ -8,7 +8,7 @@ ghost use Rattle.machine_take.specs.Changes.{answered, in_room};
 ghost use Rattle.machine_take.specs.Taking.{stopped, view_taken, take_from};
 
 use crate::change::{Change, change_of};
-use crate::store::store;
+use crate::apply::apply;
 use machine_parts::{Machine, Record};
 use seven_bit::number_at;
 use words::refusal::Refusal;
@@ -37,7 +37,7 @@ fn take_code(
     let change = change_of(m, code, words, operands, results)?;
     match change {
         Change::Releases(_, _) if !room => Err(Refusal::Room),
-        _ => Ok(store(m, change)),
+        _ => Ok(apply(m, change)),
     }
 }
 

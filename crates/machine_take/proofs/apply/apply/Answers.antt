@@ -2,7 +2,7 @@ use Rattle.std.proofs.Common.{◌<◌}
 use Rattle.theory_machine.specs.Tags.{buffer_count, station_count}
 use Rattle.machine_parts.proofs.Seen.{map-set}
 use Rattle.machine_take.proofs.Stored.{buffer_tagged, station_tagged}
-use Rattle.machine_take.proofs.store.store.Goals as goal
+use Rattle.machine_take.proofs.apply.apply.Goals as goal
 
 pub returns-in-BufferGives : goal.returns-in-BufferGives
 returns-in-BufferGives c =

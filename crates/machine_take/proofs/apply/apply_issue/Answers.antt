@@ -3,7 +3,7 @@ use Rattle.machine_parts.proofs.Seen.{map-set}
 use Rattle.machine_take.specs.Changes.{InRows}
 use Rattle.machine_take.specs.declared.issue.Issue.TheVariants.{TakesCell}
 use Rattle.machine_take.proofs.Stored.{register-seen, buffer_tagged, station_tagged}
-use Rattle.machine_take.proofs.store.store_issue.Goals as goal
+use Rattle.machine_take.proofs.apply.apply_issue.Goals as goal
 
 pub returns-in-TakesCell : goal.returns-in-TakesCell
 returns-in-TakesCell c =

@@ -21,7 +21,7 @@ fn grant(m: &mut Machine, tag: Tag, number: f64)
 
 // "next place grows by one"
 #[tactic(auto, using(crate::proofs::Stored::stored))]
-fn store_issue(m: &mut Machine, issue: Issue)
+fn apply_issue(m: &mut Machine, issue: Issue)
     requires next { m.old.next + 1 < 2 ^ 64 }
     requires slots { InRows issue }
     ensures { view m.new ≡ issued (view m.old) issue }
@@ -55,12 +55,12 @@ fn store_issue(m: &mut Machine, issue: Issue)
 
 // And what is released.
 #[tactic(auto, using(crate::proofs::Stored::stored))]
-pub(crate) fn store(m: &mut Machine, change: Change) -> Option<Record>
+pub(crate) fn apply(m: &mut Machine, change: Change) -> Option<Record>
     requires { Within m.old.next change }
     ensures { answered (Ok result) (view m.new) ≡ changed (view m.old) change }
 {
     match change {
-        Change::Issues(issue) => store_issue(m, issue),
+        Change::Issues(issue) => apply_issue(m, issue),
         Change::Arrives(b, fetched) => m.buffers[b].state = BufferState::Full(fetched),
         Change::Completes(u, worked) => m.stations[u].state = StationState::Done(worked),
         Change::BufferGives(b, number) => {
