@@ -1,1 +1,2 @@
 pub mod Bus
+pub mod Laws

@@ -1,119 +1,134 @@
-// One slot at a time: whether it waits for a tag, and what it becomes.
+// Whether a slot waits for a tag, and what it becomes at the grant: "every register, station and store operand with that tag takes the number".
 #![tactic(auto)]
 
-ghost use Rattle.std.specs.Prelude.{◌≡◌};
-ghost use Rattle.theory_machine.specs.Steps.{give, give_station, give_store};
-ghost use Rattle.machine_parts.specs.View.{view_operand, view_register, view_station, view_store};
-ghost use Rattle.machine_bus.specs.Bus.{waits_for, station_waits, store_waits};
+ghost use Rattle.std.specs.Prelude.{◌≡◌, ℕ, Bool, false, map};
+ghost use Rattle.std.specs.Float.Ieee.{Float};
+ghost use Rattle.machine_bus.specs.Bus.{waits, register_waits, station_waits, store_waits, given, given_register, given_station, given_store};
+ghost use Rattle.machine_bus.specs.Laws.{operand_keeps, register_keeps, station_keeps, store_keeps};
 
 use machine_parts::{
     Operand, Pending, Register, Station, StationState, StoreBuffer, StoreState, Tag, Work,
 };
 
-fn operand_waits(o: Operand, t: Tag) -> bool
-    ensures { result ≡ waits_for t.0 (view_operand o) }
-{
-    match o {
-        Operand::Number(_) => false,
-        Operand::Waits(u) => u.0 == t.0,
-    }
+// What may wait for a tag, and takes the number of its grant.
+pub trait Waits {
+    ghost waiting: { (tag : ℕ) → Self → Bool };
+
+    ghost given: { (tag : ℕ) → Float → Self → Self };
+
+    fn waits(&self, tag: Tag) -> bool
+        ensures { result ≡ waiting tag.0 self.now };
+
+    fn given(&self, tag: Tag, number: f64) -> Self
+        ensures { result ≡ given tag.0 number self.now };
+
+    // What does not wait is kept.
+    ghost keeps: { (tag : ℕ) (number : Float) (x : Self) → waiting tag x ≡ false → given tag number x ≡ x };
 }
 
-// "with that tag takes the number"
-fn given_operand(o: Operand, t: Tag, number: f64) -> Operand
-    ensures { view_operand result ≡ give t.0 number (view_operand o) }
-{
-    if operand_waits(o, t) {
-        return Operand::Number(number);
-    }
-    o
-}
+impl Waits for Operand {
+    ghost waiting = { waits };
 
-pub fn register_waits(r: Register, t: Tag) -> bool
-    ensures { result ≡ waits_for t.0 (view_register r) }
-{
-    let o = r.operand;
-    operand_waits(o, t)
-}
+    ghost given = { given };
 
-pub fn given_register(r: Register, t: Tag, number: f64) -> Register
-    ensures { view_register result ≡ give t.0 number (view_register r) }
-{
-    let o = r.operand;
-    Register {
-        operand: given_operand(o, t, number),
-    }
-}
+    ghost keeps = { operand_keeps };
 
-pub fn station_waits(s: Station, t: Tag) -> bool
-    ensures { result ≡ station_waits t.0 (view_station s) }
-{
-    let state = s.state;
-    match state {
-        StationState::Free => false,
-        StationState::Holding(w) => {
-            let sink = w.sink;
-            let source = w.source;
-            if operand_waits(sink, t) {
-                return true;
-            }
-            operand_waits(source, t)
+    fn waits(&self, tag: Tag) -> bool {
+        match *self {
+            Operand::Number(_) => false,
+            Operand::Waits(other) => other == tag,
         }
-        StationState::Done(_) => false,
+    }
+
+    fn given(&self, tag: Tag, number: f64) -> Operand {
+        if self.waits(tag) {
+            Operand::Number(number)
+        } else {
+            *self
+        }
     }
 }
 
-pub fn given_station(s: Station, t: Tag, number: f64) -> Station
-    ensures { view_station result ≡ give_station t.0 number (view_station s) }
-{
-    let state = s.state;
-    match state {
-        StationState::Free => s,
-        StationState::Holding(w) => {
-            let operation = w.operation;
-            let sink = w.sink;
-            let source = w.source;
-            Station {
+impl Waits for Register {
+    ghost waiting = { register_waits };
+
+    ghost given = { given_register };
+
+    ghost keeps = { register_keeps };
+
+    fn waits(&self, tag: Tag) -> bool {
+        self.operand.waits(tag)
+    }
+
+    fn given(&self, tag: Tag, number: f64) -> Register {
+        Register {
+            operand: self.operand.given(tag, number),
+        }
+    }
+}
+
+impl Waits for Station {
+    ghost waiting = { station_waits };
+
+    ghost given = { given_station };
+
+    ghost keeps = { station_keeps };
+
+    fn waits(&self, tag: Tag) -> bool {
+        match self.state {
+            StationState::Holding(work) => work.sink.waits(tag) || work.source.waits(tag),
+            StationState::Free | StationState::Done(_) => false,
+        }
+    }
+
+    fn given(&self, tag: Tag, number: f64) -> Station {
+        match self.state {
+            StationState::Holding(work) => Station {
                 state: StationState::Holding(Work {
-                    place: w.place,
-                    operation: operation,
-                    sink: given_operand(sink, t, number),
-                    source: given_operand(source, t, number),
+                    sink: work.sink.given(tag, number),
+                    source: work.source.given(tag, number),
+                    ..work
                 }),
-            }
-        }
-        StationState::Done(_) => s,
-    }
-}
-
-pub fn store_waits(s: StoreBuffer, t: Tag) -> bool
-    ensures { result ≡ store_waits t.0 (view_store s) }
-{
-    let state = s.state;
-    match state {
-        StoreState::Free => false,
-        StoreState::Live(p) => {
-            let o = p.operand;
-            operand_waits(o, t)
+            },
+            StationState::Free | StationState::Done(_) => *self,
         }
     }
 }
 
-pub fn given_store(s: StoreBuffer, t: Tag, number: f64) -> StoreBuffer
-    ensures { view_store result ≡ give_store t.0 number (view_store s) }
-{
-    let state = s.state;
-    match state {
-        StoreState::Free => s,
-        StoreState::Live(p) => {
-            let o = p.operand;
-            StoreBuffer {
+impl Waits for StoreBuffer {
+    ghost waiting = { store_waits };
+
+    ghost given = { given_store };
+
+    ghost keeps = { store_keeps };
+
+    fn waits(&self, tag: Tag) -> bool {
+        match self.state {
+            StoreState::Free => false,
+            StoreState::Live(pending) => pending.operand.waits(tag),
+        }
+    }
+
+    fn given(&self, tag: Tag, number: f64) -> StoreBuffer {
+        match self.state {
+            StoreState::Free => *self,
+            StoreState::Live(pending) => StoreBuffer {
                 state: StoreState::Live(Pending {
-                    place: p.place,
-                    cell: p.cell,
-                    operand: given_operand(o, t, number),
+                    operand: pending.operand.given(tag, number),
+                    ..pending
                 }),
-            }
+            },
+        }
+    }
+}
+
+// A whole row; only what waits is stored anew.
+pub fn give<T: Waits + Copy>(row: &mut [T], tag: Tag, number: f64)
+    ensures { row.new ≡ map (T.given tag.0 number) row.old }
+{
+    for slot in row.iter_mut() {
+        if slot.waits(tag) {
+            *slot = slot.given(tag, number);
         }
     }
 }

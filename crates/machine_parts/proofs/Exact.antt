@@ -23,11 +23,11 @@ use Rattle.machine_parts.specs.View.{view_operand, view_register, view_buffer_st
 
 -- THERE AND BACK
 
-operand_back : (o : Operand) → operand_of (view_operand o) ≡ o
+pub operand_back : (o : Operand) → operand_of (view_operand o) ≡ o
 operand_back (Number x) = refl
 operand_back (Waits t) = refl
 
-register_back : (r : Register) → register_of (view_register r) ≡ r
+pub register_back : (r : Register) → register_of (view_register r) ≡ r
 register_back r = ap (λ (o : Operand). record { operand = o }) (operand_back r.operand)
 
 buffer_back : (b : Buffer) → buffer_of (view_buffer b) ≡ b
@@ -38,7 +38,7 @@ buffer_back b = go b.state
     go (buffer.Waiting f) = refl
     go (buffer.Full h) = refl
 
-station_back : (s : Station) → station_of (view_station s) ≡ s
+pub station_back : (s : Station) → station_of (view_station s) ≡ s
 station_back s = go s.state
   where
     go : (s : StationState) → station_of (view_station_state s) ≡ record { state = s }
@@ -49,7 +49,7 @@ station_back s = go s.state
         }
     go (station.Done h) = refl
 
-store_back : (s : StoreBuffer) → store_of (view_store s) ≡ s
+pub store_back : (s : StoreBuffer) → store_of (view_store s) ≡ s
 store_back s = go s.state
   where
     go : (s : StoreState) → store_of (view_store_state s) ≡ record { state = s }
@@ -96,7 +96,7 @@ records_exact x y e = sym (maps_back view_record record_of (λ r. refl) x) ∙ a
 
 -- BACK AND THERE
 
-operand_forth : (o : theory.Operand Float) → view_operand (operand_of o) ≡ o
+pub operand_forth : (o : theory.Operand Float) → view_operand (operand_of o) ≡ o
 operand_forth (num x) = refl
 operand_forth (tag t) = refl
 
@@ -105,12 +105,12 @@ buffer_forth free_buffer = refl
 buffer_forth (waiting p c) = refl
 buffer_forth (full p v) = refl
 
-station_forth : (s : theory.Station Float) → view_station (station_of s) ≡ s
+pub station_forth : (s : theory.Station Float) → view_station (station_of s) ≡ s
 station_forth free_station = refl
 station_forth (holding p o x y) = λ i. holding p o (operand_forth x i) (operand_forth y i)
 station_forth (done p v) = refl
 
-store_forth : (s : theory.StoreBuffer Float) → view_store (store_of s) ≡ s
+pub store_forth : (s : theory.StoreBuffer Float) → view_store (store_of s) ≡ s
 store_forth free_store = refl
 store_forth (live p c x) = λ i. live p c (operand_forth x i)
 

@@ -12,7 +12,7 @@ use numbers::Operation;
 use words::refusal::Refusal;
 
 // A tag: a buffer's or a station's number.
-#[derive(Clone, Copy)]
+#[derive(Clone, Copy, PartialEq, Eq)]
 pub struct Tag(pub u8);
 
 impl Tag {

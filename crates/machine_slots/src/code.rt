@@ -80,7 +80,6 @@ pub const CODE_LIMIT: u32 = CODES[ROWS - 1].base + CODES[ROWS - 1].last + 1;
 // A step: the slot by its index from 0.
 #[derive(Clone, Copy)]
 pub enum Step {
-    Unknown,
     Issue,
     Arrival(usize),
     Completion(usize),
@@ -89,10 +88,11 @@ pub enum Step {
     Release(usize),
 }
 
-pub fn step_of(code: u32) -> Step
+#[tactic(auto, unfolding(theory_machine::specs::Codes::step_of))]
+pub fn step_of(code: u32) -> Option<Step>
     ensures { ReadsAs code result }
 {
-    match code {
+    let step = match code {
         ISSUE => Step::Issue,
         FIRST_ARRIVAL..=LAST_ARRIVAL => Step::Arrival((code - FIRST_ARRIVAL) as usize),
         FIRST_COMPLETION..=LAST_COMPLETION => Step::Completion((code - FIRST_COMPLETION) as usize),
@@ -103,6 +103,7 @@ pub fn step_of(code: u32) -> Step
             (code - FIRST_STATION_GRANT) as usize,
         ),
         FIRST_RELEASE..=LAST_RELEASE => Step::Release((code - FIRST_RELEASE) as usize),
-        _ => Step::Unknown,
-    }
+        _ => return None,
+    };
+    Some(step)
 }

@@ -1,8 +1,7 @@
-pub mod Arms
-pub mod Changing
+pub mod ChangeFound
 pub mod Counted
 pub mod Determined
 pub mod Forwards
-pub mod ChangeFound
 pub mod Issued
+pub mod Stored
 pub mod Takes

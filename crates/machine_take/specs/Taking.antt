@@ -1,12 +1,16 @@
 -- What only the code's contracts cite: codes of a schedule taken, without the test of good order, up to and including the next release.
-use Rattle.std.specs.Prelude.{Bool, cond, not, List, ℕ, zero, suc, leb, Float, length}
+use Rattle.std.specs.Prelude as std
+use Rattle.std.specs.Prelude.{Bool, cond, not, List, ℕ, zero, suc, leb, Result, Float, length}
 use Rattle.std.proofs.Math.Option.{Option, none, some}
 use Rattle.seven_bit.specs.SevenBits.{Parsed, accepted, refused, number_at}
 use Rattle.theory_machine.specs.Machine.{Lent, Machine, Record}
 use Rattle.theory_machine.specs.Binary64.{binary64}
 use Rattle.theory_machine.specs.Issue.{Answer, is_taken}
 use Rattle.theory_machine.specs.Steps.{perform}
-use Rattle.machine_parts.specs.View.{view, view_released}
+use Rattle.words.specs.declared.refusal.Refusal.{Refusal}
+use Rattle.words.specs.Refusals.{answer_number}
+use Rattle.machine_parts.specs.View.{view, released_by}
+use Rattle.machine_parts.specs.declared.Record as parts
 use Rattle.machine_take.specs.declared.taking.Taken as code
 
 -- where they stop
@@ -17,8 +21,12 @@ pub record Taken : Type 0 where
   pub refusal : ℕ
   pub released : Option (Record Float)
 
+-- where the codes taken so far stop, with this outcome
+abbrev pub stopped : code.Taken → Result (std.Option parts.Record) Refusal → Taken
+stopped t o = record { machine = view t.machine; steps = t.steps; place = t.place; refusal = answer_number o; released = released_by o }
+
 abbrev pub view_taken : code.Taken → Taken
-view_taken t = record { machine = view t.machine; steps = t.steps; place = t.place; refusal = t.refusal; released = view_released t.released }
+view_taken t = stopped t t.outcome
 
 abbrev pub ended_at : Machine Float → (steps place refusal : ℕ) → Taken
 ended_at m steps place number = record { machine = m; steps = steps; place = place; refusal = number; released = none }

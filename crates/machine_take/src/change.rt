@@ -3,148 +3,133 @@ ghost use Rattle.std.specs.Prelude.{◌≡◌, [], ◌<◌};
 ghost use Rattle.theory_machine.specs.Tags.{buffer_count, station_count, store_count};
 ghost use Rattle.theory_machine.specs.Binary64.{binary64};
 ghost use Rattle.theory_machine.specs.Steps.{operand_cell, arrive, complete, grant_buffer, grant_station, release_store};
-ghost use Rattle.machine_parts.specs.View.{view_buffer, view_station, view_store, cells_alone};
-ghost use Rattle.machine_take.specs.Changes.{Makes};
+ghost use Rattle.machine_parts.specs.View.{view_buffer, view_station, view_store, cells_alone, lent_with};
+ghost use Rattle.machine_take.specs.Changes.{Makes, Changes};
 
+use crate::issue::{Issue, next_issue};
 use machine_parts::{
-    Buffer, BufferState, Fetched, Operand, Record, Station, StationState, StoreBuffer, StoreState,
-    Tag, Worked,
+    Buffer, BufferState, Fetched, Machine, Operand, Record, Station, StationState, StoreBuffer,
+    StoreState, Worked,
 };
-use numbers::Operation;
-use words::refusal;
+use machine_slots::code::{Step, step_of};
+use words::refusal::Refusal;
 
 #[derive(Clone, Copy)]
 pub enum Change {
-    Refused(u32),
-    // a load, or arithmetic with a cell: R1, the cell, the buffer; of arithmetic also the station
-    Loads(usize, usize, usize),
-    TakesCell(Operation, usize, usize, usize, usize),
-    // a copy, or arithmetic with a register: R1 and the other register; of arithmetic also the station
-    Copies(usize, usize),
-    TakesRegister(Operation, usize, usize, usize),
-    // R1, the cell and the store buffer
-    Stores(usize, usize, usize),
+    Issues(Issue),
     Arrives(usize, Fetched),
     Completes(usize, Worked),
-    // the tag that is granted the bus
-    Gives(Tag, f64),
+    // the giver's number
+    BufferGives(usize, f64),
+    StationGives(usize, f64),
     Releases(usize, Record),
-}
-
-pub(crate) fn not_now() -> Change
-    ensures { result ≡ Change.Refused 7 }
-{
-    Change::Refused(refusal::NOT_NOW)
 }
 
 // Beyond the area a cell reads as +0, so that a step is total; good order keeps cells within it.
 fn operand_cell(operands: &[f64], cell: usize) -> f64
     ensures { result ≡ operand_cell binary64 (cells_alone operands.now) cell }
 {
-    if cell < operands.len() {
-        return operands[cell];
+    match operands.get(cell) {
+        Some(number) => *number,
+        None => 0.0,
     }
-    0.0
 }
 
-pub(crate) fn arrival(b: usize, old: Buffer, operands: &[f64]) -> Change
+fn arrival(b: usize, old: Buffer, operands: &[f64]) -> Result<Change, Refusal>
     requires { b < buffer_count }
     ensures { Makes result (λ m. arrive binary64 (cells_alone operands.now) m b (view_buffer old)) }
 {
-    let state = old.state;
-    match state {
-        BufferState::Free => not_now(),
-        BufferState::Waiting(fetch) => {
-            let cell = fetch.cell;
-            let number = operand_cell(operands, cell);
-            Change::Arrives(
-                b,
-                Fetched {
-                    place: fetch.place,
-                    number: number,
-                },
-            )
-        }
-        BufferState::Full(_) => not_now(),
-    }
+    let BufferState::Waiting(fetch) = old.state else {
+        return Err(Refusal::NotNow);
+    };
+    let number = operand_cell(operands, fetch.cell);
+    Ok(Change::Arrives(
+        b,
+        Fetched {
+            place: fetch.place,
+            number,
+        },
+    ))
 }
 
-pub(crate) fn completion(u: usize, old: Station) -> Change
+fn completion(u: usize, old: Station) -> Result<Change, Refusal>
     requires { u < station_count }
     ensures { Makes result (λ m. complete binary64 (cells_alone []) m u (view_station old)) }
 {
-    let state = old.state;
-    match state {
-        StationState::Free => not_now(),
-        StationState::Holding(work) => {
-            let operation = work.operation;
-            let sink = work.sink;
-            let source = work.source;
-            match sink {
-                Operand::Number(x) => match source {
-                    Operand::Number(y) => {
-                        let number = numbers::computed(operation, x, y);
-                        Change::Completes(
-                            u,
-                            Worked {
-                                place: work.place,
-                                number: number,
-                            },
-                        )
-                    }
-                    Operand::Waits(_) => not_now(),
-                },
-                Operand::Waits(_) => not_now(),
-            }
-        }
-        StationState::Done(_) => not_now(),
-    }
+    let StationState::Holding(work) = old.state else {
+        return Err(Refusal::NotNow);
+    };
+    let (Operand::Number(sink), Operand::Number(source)) = (work.sink, work.source) else {
+        return Err(Refusal::NotNow);
+    };
+    let number = numbers::computed(work.operation, sink, source);
+    Ok(Change::Completes(
+        u,
+        Worked {
+            place: work.place,
+            number,
+        },
+    ))
 }
 
-pub(crate) fn buffer_grant(b: usize, old: Buffer) -> Change
+fn buffer_grant(b: usize, old: Buffer) -> Result<Change, Refusal>
     requires { b < buffer_count }
     ensures { Makes result (λ m. grant_buffer m b (view_buffer old)) }
 {
-    let state = old.state;
-    match state {
-        BufferState::Free => not_now(),
-        BufferState::Waiting(_) => not_now(),
-        BufferState::Full(fetched) => Change::Gives(Tag::of_buffer(b), fetched.number),
-    }
+    let BufferState::Full(fetched) = old.state else {
+        return Err(Refusal::NotNow);
+    };
+    Ok(Change::BufferGives(b, fetched.number))
 }
 
-pub(crate) fn station_grant(u: usize, old: Station) -> Change
+fn station_grant(u: usize, old: Station) -> Result<Change, Refusal>
     requires { u < station_count }
     ensures { Makes result (λ m. grant_station m u (view_station old)) }
 {
-    let state = old.state;
-    match state {
-        StationState::Free => not_now(),
-        StationState::Holding(_) => not_now(),
-        StationState::Done(worked) => Change::Gives(Tag::of_station(u), worked.number),
-    }
+    let StationState::Done(worked) = old.state else {
+        return Err(Refusal::NotNow);
+    };
+    Ok(Change::StationGives(u, worked.number))
 }
 
-pub(crate) fn release(t: usize, old: StoreBuffer) -> Change
+fn release(t: usize, old: StoreBuffer) -> Result<Change, Refusal>
     requires { t < store_count }
     ensures { Makes result (λ m. release_store m t (view_store old)) }
 {
-    let state = old.state;
-    match state {
-        StoreState::Free => not_now(),
-        StoreState::Live(pending) => {
-            let operand = pending.operand;
-            match operand {
-                Operand::Number(x) => Change::Releases(
-                    t,
-                    Record {
-                        place: pending.place,
-                        cell: pending.cell,
-                        number: x,
-                    },
-                ),
-                Operand::Waits(_) => not_now(),
-            }
-        }
+    let StoreState::Live(pending) = old.state else {
+        return Err(Refusal::NotNow);
+    };
+    let Operand::Number(number) = pending.operand else {
+        return Err(Refusal::NotNow);
+    };
+    Ok(Change::Releases(
+        t,
+        Record {
+            place: pending.place,
+            cell: pending.cell,
+            number,
+        },
+    ))
+}
+
+pub(crate) fn change_of(
+    m: &Machine,
+    code: u32,
+    words: &[u32],
+    operands: &[f64],
+    results: usize,
+) -> Result<Change, Refusal>
+    ensures { Changes (lent_with words.now operands.now results) m.now code result }
+{
+    let Some(step) = step_of(code) else {
+        return Err(Refusal::Code);
+    };
+    match step {
+        Step::Issue => Ok(Change::Issues(next_issue(m, words, operands, results)?)),
+        Step::Arrival(b) => arrival(b, m.buffers[b], operands),
+        Step::Completion(u) => completion(u, m.stations[u]),
+        Step::BufferGrant(b) => buffer_grant(b, m.buffers[b]),
+        Step::StationGrant(u) => station_grant(u, m.stations[u]),
+        Step::Release(t) => release(t, m.stores[t]),
     }
 }

@@ -1,82 +1,77 @@
 // Issue: which slots an instruction takes, "always using the lowest-numbered free one".
 ghost use Rattle.machine_parts.specs.View.{lent_with};
-ghost use Rattle.machine_take.specs.Changes.{instruction_for, RegistersIn, Issues, IssuesNext};
+ghost use Rattle.machine_take.specs.Changes.{instruction_for, RegistersIn, IssueOf, IssuesNext};
 
-use crate::change::{Change, not_now};
 use machine_free::{cell_live, lowest_buffer, lowest_station, lowest_store};
-use machine_parts::{Buffer, Register, Station, StoreBuffer, Tag};
-use words::{Areas, Form, refusal};
+use machine_parts::{Machine, Register};
+use numbers::Operation;
+use words::refusal::Refusal;
+use words::{Areas, Form, word_refusal};
+
+// What an issue takes, by index from 0.
+#[derive(Clone, Copy)]
+pub enum Issue {
+    // a load, or arithmetic with a cell: R1, the cell, the buffer; of arithmetic also the station
+    Loads(usize, usize, usize),
+    TakesCell(Operation, usize, usize, usize, usize),
+    // a copy, or arithmetic with a register: R1 and the other register; of arithmetic also the station
+    Copies(usize, usize),
+    TakesRegister(Operation, usize, usize, usize),
+    // R1, the cell and the store buffer
+    Stores(usize, usize, usize),
+}
 
 // By the word's form, R1's index and the operand.
-fn slots_for(
-    form: Form,
-    r: usize,
-    operand: u32,
-    bs: [Buffer; Tag::BUFFERS],
-    ss: [Station; Tag::STATIONS],
-    ts: [StoreBuffer; StoreBuffer::COUNT],
-) -> Change
+fn slots_for(m: &Machine, form: Form, r: usize, operand: u32) -> Result<Issue, Refusal>
     requires { RegistersIn (instruction_for form r operand) }
-    ensures { Issues bs ss ts (instruction_for form r operand) result }
+    ensures { IssueOf m.now (instruction_for form r operand) result }
 {
     let cell = operand as usize;
     match form {
-        Form::Unknown => Change::Refused(refusal::OPERATION),
-        Form::LD => match lowest_buffer(bs) {
-            None => not_now(),
-            Some(b) => Change::Loads(r, cell, b),
-        },
-        Form::LDR => Change::Copies(r, Register::index_of(operand)),
-        Form::CellArithmetic(o) => match lowest_buffer(bs) {
-            None => not_now(),
-            Some(b) => match lowest_station(ss, o) {
-                None => not_now(),
-                Some(s) => Change::TakesCell(o, r, cell, b, s),
-            },
-        },
-        Form::RegisterArithmetic(o) => match lowest_station(ss, o) {
-            None => not_now(),
-            Some(s) => Change::TakesRegister(o, r, Register::index_of(operand), s),
-        },
+        Form::Unknown => Err(Refusal::Operation),
+        Form::LD => {
+            let b = lowest_buffer(m.buffers).ok_or(Refusal::NotNow)?;
+            Ok(Issue::Loads(r, cell, b))
+        }
+        Form::LDR => Ok(Issue::Copies(r, Register::index_of(operand))),
+        Form::CellArithmetic(o) => {
+            let b = lowest_buffer(m.buffers).ok_or(Refusal::NotNow)?;
+            let u = lowest_station(m.stations, o).ok_or(Refusal::NotNow)?;
+            Ok(Issue::TakesCell(o, r, cell, b, u))
+        }
+        Form::RegisterArithmetic(o) => {
+            let u = lowest_station(m.stations, o).ok_or(Refusal::NotNow)?;
+            Ok(Issue::TakesRegister(o, r, Register::index_of(operand), u))
+        }
         Form::STD => {
-            if cell_live(ts, cell) {
-                return not_now();
+            if cell_live(m.stores, cell) {
+                return Err(Refusal::NotNow);
             }
-            match lowest_store(ts) {
-                None => not_now(),
-                Some(t) => Change::Stores(r, cell, t),
-            }
+            let t = lowest_store(m.stores).ok_or(Refusal::NotNow)?;
+            Ok(Issue::Stores(r, cell, t))
         }
     }
 }
 
 // "for an issue at the list's end 7, else 2, 3, 4 for that word, then 7"
-pub(crate) fn issue(
-    place: usize,
-    bs: [Buffer; Tag::BUFFERS],
-    ss: [Station; Tag::STATIONS],
-    ts: [StoreBuffer; StoreBuffer::COUNT],
+pub(crate) fn next_issue(
+    m: &Machine,
     words: &[u32],
     operands: &[f64],
     results: usize,
-) -> Change
-    ensures { IssuesNext place bs ss ts (lent_with words.now operands.now results) result }
+) -> Result<Issue, Refusal>
+    ensures { IssuesNext m.now (lent_with words.now operands.now results) result }
 {
-    if words.len() <= place {
-        return not_now();
+    if words.len() <= m.next {
+        return Err(Refusal::NotNow);
     }
-    let word = words[place];
-    let bad = words::word_refusal(
-        word,
-        Areas {
-            operands: operands.len(),
-            results,
-        },
-    );
-    if bad != refusal::ACCEPTED {
-        return Change::Refused(bad);
-    }
+    let word = words[m.next];
+    let areas = Areas {
+        operands: operands.len(),
+        results,
+    };
+    word_refusal(word, areas)?;
     let r = Register::index_of(words::r1_of(word));
     let form = words::form_of(words::operation_of(word));
-    slots_for(form, r, words::operand_of(word), bs, ss, ts)
+    slots_for(m, form, r, words::operand_of(word))
 }

@@ -2,6 +2,7 @@
 // entry: crate machine_steps has those, which test it.
 #![tactic(auto)]
 
+mod apply;
 mod change;
 mod issue;
 pub mod taking;

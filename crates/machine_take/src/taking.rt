@@ -1,26 +1,75 @@
-// Codes of a schedule, taken up to and including the next release: the one place where a step is done. The machine stands in a local, and
-// only the slots that change are stored.
-ghost use Rattle.std.specs.Prelude.{◌≡◌, length};
+// Codes of a schedule, taken up to and including the next release: the one place where a step is done. The machine is stored into where it
+// stands.
+ghost use Rattle.std.specs.Prelude.{◌≡◌, length, ◌≤◌, OnErr};
+ghost use Rattle.theory_machine.specs.Binary64.{binary64};
+ghost use Rattle.theory_machine.specs.Steps.{perform};
 ghost use Rattle.machine_parts.specs.View.{view, lent_with};
-ghost use Rattle.machine_take.specs.Taking.{view_taken, take_from};
+ghost use Rattle.machine_take.specs.Changes.{answered, in_room};
+ghost use Rattle.machine_take.specs.Taking.{stopped, view_taken, take_from};
 
-use crate::change;
-use crate::change::Change;
-use crate::issue::issue;
-use machine_parts::{Machine, Register, Released, StoreBuffer, Tag};
-use machine_slots::code::{Step, step_of};
-use machine_slots::made;
-use seven_bit::{Parsed, number_at};
-use words::refusal;
+use crate::change::{Change, change_of};
+use crate::apply::apply;
+use machine_parts::{Machine, Record};
+use seven_bit::number_at;
+use words::refusal::Refusal;
 
-// Where a row of codes stops: the refusal that stopped it, 0 at a release or at the end, and the steps done.
+// Where a row of codes stops: at a release, with its record, at a refusal, or at the end; and the steps done.
 #[derive(Clone, Copy)]
 pub struct Taken {
     pub machine: Machine,
     pub steps: usize,
     pub place: usize,
-    pub refusal: u32,
-    pub released: Released,
+    pub outcome: Result<Option<Record>, Refusal>,
+}
+
+// One step. A release wants room for its record.
+fn take_code(
+    m: &mut Machine,
+    code: u32,
+    words: &[u32],
+    operands: &[f64],
+    results: usize,
+    room: bool,
+) -> Result<Option<Record>, Refusal>
+    ensures is { answered result (view m.new) ≡ in_room room (view m.old) (perform binary64 (lent_with words.now operands.now results) (view m.old) code) }
+    ensures refused { OnErr result (m.new ≡ m.old) }
+{
+    let change = change_of(m, code, words, operands, results)?;
+    match change {
+        Change::Releases(_, _) if !room => Err(Refusal::Room),
+        _ => Ok(apply(m, change)),
+    }
+}
+
+// Steps from where it stands.
+fn until_release(
+    taken: &mut Taken,
+    words: &[u32],
+    operands: &[f64],
+    results: usize,
+    schedule: &[u8],
+    room: bool,
+) -> Result<Option<Record>, Refusal>
+    requires { taken.old.steps ≤ taken.old.place }
+    ensures { stopped taken.new result ≡ take_from (lent_with words.now operands.now results) room schedule.now (length schedule.now) (view taken.old.machine) taken.old.steps taken.old.place }
+{
+    while taken.place < schedule.len() {
+        let code = number_at(schedule, taken.place)?;
+        let released = take_code(
+            &mut taken.machine,
+            code.value,
+            words,
+            operands,
+            results,
+            room,
+        )?;
+        taken.place = code.next;
+        taken.steps += 1;
+        if released.is_some() {
+            return Ok(released);
+        }
+    }
+    Ok(None)
 }
 
 // From a place of the schedule on; steps are counted from there.
@@ -35,131 +84,12 @@ pub fn take_codes(
 ) -> Taken
     ensures { view_taken result ≡ take_from (lent_with words.now operands.now results) room schedule.now (length schedule.now) (view m) 0 from }
 {
-    let mut n = m;
-    let mut steps = 0;
-    let mut place = from;
-    let mut refusal = refusal::ACCEPTED;
-    let mut released = Released::Nothing;
-    while place < schedule.len() {
-        match number_at(schedule, place) {
-            Parsed::Refused(number, _) => {
-                refusal = number;
-                break;
-            }
-            Parsed::Accepted(code, after) => {
-                let next = n.next;
-                let done = steps + 1;
-                let change = match step_of(code) {
-                    Step::Unknown => Change::Refused(refusal::CODE),
-                    Step::Issue => {
-                        let bs = n.buffers;
-                        let ss = n.stations;
-                        let ts = n.stores;
-                        issue(next, bs, ss, ts, words, operands, results)
-                    }
-                    Step::Arrival(b) => change::arrival(b, n.buffers[b], operands),
-                    Step::Completion(u) => change::completion(u, n.stations[u]),
-                    Step::BufferGrant(b) => change::buffer_grant(b, n.buffers[b]),
-                    Step::StationGrant(u) => change::station_grant(u, n.stations[u]),
-                    Step::Release(t) => change::release(t, n.stores[t]),
-                };
-                match change {
-                    Change::Refused(number) => {
-                        refusal = number;
-                        break;
-                    }
-                    Change::Loads(r, cell, b) => {
-                        n.registers[r] = made::waiting_register(Tag::of_buffer(b));
-                        n.buffers[b] = made::fetching(next, cell);
-                        n.next = next + 1;
-                    }
-                    Change::TakesCell(o, r, cell, b, u) => {
-                        let sink = n.registers[r];
-                        n.stations[u] = made::holding(
-                            next,
-                            o,
-                            sink,
-                            made::waiting_register(Tag::of_buffer(b)),
-                        );
-                        n.registers[r] = made::waiting_register(Tag::of_station(u));
-                        n.buffers[b] = made::fetching(next, cell);
-                        n.next = next + 1;
-                    }
-                    Change::Copies(r1, r2) => {
-                        let other = n.registers[r2];
-                        n.registers[r1] = other;
-                        n.next = next + 1;
-                    }
-                    Change::TakesRegister(o, r1, r2, u) => {
-                        let sink = n.registers[r1];
-                        let source = n.registers[r2];
-                        let waits = made::waiting_register(Tag::of_station(u));
-                        n.stations[u] = made::holding(next, o, sink, source);
-                        n.registers[r1] = waits;
-                        n.next = next + 1;
-                    }
-                    Change::Stores(r, cell, t) => {
-                        let operand = n.registers[r];
-                        n.stores[t] = made::pending(next, cell, operand);
-                        n.next = next + 1;
-                    }
-                    Change::Arrives(b, fetched) => {
-                        n.buffers[b] = made::full(fetched);
-                    }
-                    Change::Completes(u, worked) => {
-                        n.stations[u] = made::done(worked);
-                    }
-                    Change::Gives(tag, number) => {
-                        let t = tag.0;
-                        if t < Tag::FIRST_STATION {
-                            n.buffers[(t - Tag::FIRST_BUFFER) as usize] = made::free_buffer();
-                        } else {
-                            n.stations[(t - Tag::FIRST_STATION) as usize] = made::free_station();
-                        }
-                        for i in 0..Register::COUNT {
-                            let register = n.registers[i];
-                            if !machine_bus::register_waits(register, tag) {
-                                continue;
-                            }
-                            n.registers[i] = machine_bus::given_register(register, tag, number);
-                        }
-                        for i in 0..Tag::STATIONS {
-                            let station = n.stations[i];
-                            if !machine_bus::station_waits(station, tag) {
-                                continue;
-                            }
-                            n.stations[i] = machine_bus::given_station(station, tag, number);
-                        }
-                        for i in 0..StoreBuffer::COUNT {
-                            let store = n.stores[i];
-                            if !machine_bus::store_waits(store, tag) {
-                                continue;
-                            }
-                            n.stores[i] = machine_bus::given_store(store, tag, number);
-                        }
-                    }
-                    Change::Releases(t, out) => {
-                        if !room {
-                            refusal = refusal::ROOM;
-                            break;
-                        }
-                        n.stores[t] = made::free_store();
-                        released = Released::One(out);
-                        place = after;
-                        steps = done;
-                        break;
-                    }
-                }
-                place = after;
-                steps = done;
-            }
-        }
-    }
-    Taken {
-        machine: n,
-        steps,
-        place,
-        refusal,
-        released,
-    }
+    let mut taken = Taken {
+        machine: m,
+        steps: 0,
+        place: from,
+        outcome: Ok(None),
+    };
+    taken.outcome = until_release(&mut taken, words, operands, results, schedule, room);
+    taken
 }

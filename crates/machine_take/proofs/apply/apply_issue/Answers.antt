@@ -1,0 +1,23 @@
+use Rattle.std.proofs.Common.{rules, add-one}
+use Rattle.machine_parts.proofs.Seen.{map-set}
+use Rattle.machine_take.specs.Changes.{InRows}
+use Rattle.machine_take.specs.declared.issue.Issue.TheVariants.{TakesCell}
+use Rattle.machine_take.proofs.Stored.{register-seen, buffer_tagged, station_tagged}
+use Rattle.machine_take.proofs.apply.apply_issue.Goals as goal
+
+pub returns-in-TakesCell : goal.returns-in-TakesCell
+returns-in-TakesCell c =
+    let i = c.in-TakesCell in
+    let h : InRows (TakesCell i.o i.r i.cell i.b i.u) = rw i.is at c.requires.slots in
+    rw (
+      i.is,
+      map-set,
+      map-set,
+      map-set,
+      c.fetching-in-TakesCell.ensures,
+      c.holding.ensures,
+      buffer_tagged h.1 c.of_buffer-in-TakesCell.ensures,
+      station_tagged h.2 c.of_station.ensures,
+      register-seen c.args.m.now.registers i.r (search rules) h.0,
+      add-one,
+    )
