@@ -8,10 +8,10 @@ use machine_steps::advance::{Entry, Progress, begun};
 
 // The thin writer: the record goes to its index, where there is one.
 fn put_entry(log: &mut [Record], entry: Entry)
-    ensures { log.new ≡ set log.old entry.index entry.record }
+    ensures { log.new ≡ set log.old entry.index entry.made }
 {
     if entry.index < log.len() {
-        log[entry.index] = entry.record;
+        log[entry.index] = entry.made;
     }
 }
 

@@ -67,7 +67,7 @@ stays p = record { progress = p; made = blank; index = p.records; released = fal
 -- the progress after a stop, with what was released, if anything
 abbrev pub view_stop : code.Progress → declared.Option Entry → Stop
 view_stop p None = stays (view_progress p)
-view_stop p (Some e) = record { progress = view_progress p; made = e.record; index = e.index; released = true }
+view_stop p (Some e) = record { progress = view_progress p; made = e.made; index = e.index; released = true }
 
 -- what codes taken come to: over, or at a release
 abbrev pub stop_of : Progress → Taken → Option (theory.Record Float) → Stop

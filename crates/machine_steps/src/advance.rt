@@ -25,7 +25,7 @@ pub struct Progress {
 #[derive(Clone, Copy)]
 pub struct Entry {
     pub index: usize,
-    pub record: Record,
+    pub made: Record,
 }
 
 // "A run checks the list, then 6, even for an empty schedule"
@@ -65,7 +65,15 @@ impl Progress {
         }
         let fits = self.records < room;
         let size = results.len();
-        let taken = take_codes(self.machine, words, operands, size, schedule, self.place, fits);
+        let taken = take_codes(
+            self.machine,
+            words,
+            operands,
+            size,
+            schedule,
+            self.place,
+            fits,
+        );
         write_released(taken.outcome, results);
         self.machine = taken.machine;
         self.steps += taken.steps;
@@ -80,12 +88,12 @@ impl Progress {
                 self.outcome = Ok(());
                 None
             }
-            Ok(Some(record)) => {
+            Ok(Some(made)) => {
                 let index = self.records;
                 self.outcome = Ok(());
                 self.records = index + 1;
                 self.going = true;
-                Some(Entry { index, record })
+                Some(Entry { index, made })
             }
         }
     }

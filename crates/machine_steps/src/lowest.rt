@@ -12,12 +12,7 @@ use machine_take::taking::take_codes;
 use words::Areas;
 use words::refusal::Refusal;
 
-fn lowest_permitted(
-    m: Machine,
-    words: &[u32],
-    operands: &[f64],
-    results: usize,
-) -> Option<u32>
+fn lowest_permitted(m: Machine, words: &[u32], operands: &[f64], results: usize) -> Option<u32>
     ensures { view_lowest result ≡ lowest_permitted binary64 (lent_with words.now operands.now results) (view m) }
 {
     for code in 0..CODE_LIMIT {

@@ -10,4 +10,4 @@ abbrev pub logged_stop : (log : List ℕ) → Stop → List ℕ
 logged_stop log s = cond (s.released && ltb s.index (room_in log)) (sets log (s.index * record_length) (record_words (view_record s.made))) log
 
 abbrev pub logged_entry : (log : List ℕ) → Entry → List ℕ
-logged_entry log e = cond (ltb e.index (room_in log)) (sets log (e.index * record_length) (record_words (view_record e.record))) log
+logged_entry log e = cond (ltb e.index (room_in log)) (sets log (e.index * record_length) (record_words (view_record e.made))) log

@@ -23,7 +23,7 @@ fn put_entry(log: &mut [u64], entry: Entry)
     ensures { log.new ≡ logged_entry log.old entry }
 {
     if entry.index < log.len() / RECORD_WORDS {
-        put_words(log, entry.index * RECORD_WORDS, &record_words(entry.record));
+        put_words(log, entry.index * RECORD_WORDS, &record_words(entry.made));
     }
 }
 
