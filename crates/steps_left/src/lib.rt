@@ -69,6 +69,7 @@ impl Counted for StoreBuffer {
 impl Counted for u32 {
     ghost weight = { λ w. instruction_left (decode w) };
 
+    #[tactic(auto, unfolding(theory_machine::specs::Instruction::decode))]
     fn left(&self) -> usize {
         match words::form_of(words::operation_of(*self)) {
             Form::Unknown => 0,
@@ -123,6 +124,7 @@ pub fn steps_left(m: Machine, words: &[u32], operands: &[f64], results: &[f64]) 
 }
 
 // 01: the next place equals the length, and every buffer, station and store buffer is free.
+#[tactic(auto, unfolding(theory_machine::specs::GoodOrder::drained))]
 pub fn drained(m: Machine, words: &[u32]) -> bool
     ensures { result ≡ theory.drained (length words.now) (view m) }
 {
