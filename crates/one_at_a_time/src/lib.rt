@@ -24,6 +24,7 @@ pub struct OneAtATime {
 }
 
 // One instruction: "R1 takes the operand"; "R1 plus, minus, times, over operand to R1"; "R1 to the result cell". The word has been checked.
+#[tactic(auto, using(crate::proofs::Decoded::reads_within))]
 fn execute(word: u32, registers: &mut [f64; Register::COUNT], operands: &[f64], results: &mut [f64])
     requires word_value { word_refusal (areas_of (lent [] operands.now results.old)) word ≡ 0 }
     requires registers_len { length registers.old ≡ register_count }

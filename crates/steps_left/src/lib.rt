@@ -63,6 +63,7 @@ impl Counted for StoreBuffer {
 impl Counted for u32 {
     ghost weight = { λ w. instruction_left (decode w) };
 
+    #[tactic(auto, unfolding(theory_machine::specs::Instruction::decode))]
     fn left(&self) -> usize {
         match words::form_of(words::operation_of(*self)) {
             Form::Unknown => 0,
@@ -106,6 +107,7 @@ pub fn steps_left(
 }
 
 // 01: the next place equals the length, and every buffer, station and store buffer is free.
+#[tactic(auto, unfolding(theory_machine::specs::GoodOrder::drained))]
 pub fn drained(m: Machine, words: &[u32]) -> bool
     ensures { result ≡ theory.drained (length words.now) (view m) }
 {

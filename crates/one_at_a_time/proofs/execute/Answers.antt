@@ -1,75 +1,12 @@
 use native.Mathlib.Omega.{arith}
 use lib.Ieee.{nan}
-use Rattle.words.specs.declared.Form.TheVariants.{Unknown, LD, LDR, STD}
+use Rattle.words.specs.declared.Form.TheVariants.{LD, LDR, STD}
 use Rattle.theory_machine.specs.Instruction.{index_of}
 use Rattle.theory_machine.specs.Binary64.{binary64}
 use Rattle.theory_machine.proofs.Words.{cell_in_area}
 use Rattle.machine_parts.proofs.Seen.{any_default}
 use Rattle.one_at_a_time.proofs.Decoded.{decoded}
 use Rattle.one_at_a_time.proofs.execute.Goals as goal
-
-pub bounds-operands-cell : goal.bounds-operands-cell
-bounds-operands-cell c =
-    let d = decoded _ _ LD c.requires.word_value c.operation_of.ensures c.form_of-form.ensures c.in-LD.is c.r1_of.ensures c.operand_of-operand.ensures in
-    cell_in_area _ _ d.formed.1
-
-pub bounds-registers-r : goal.bounds-registers-r
-bounds-registers-r c =
-    let d = decoded _ _ LD c.requires.word_value c.operation_of.ensures c.form_of-form.ensures c.in-LD.is c.r1_of.ensures c.operand_of-operand.ensures in
-    omega (arith, d.formed.0)
-
-pub bounds-registers-index_of : goal.bounds-registers-index_of
-bounds-registers-index_of c =
-    let d = decoded _ _ LDR c.requires.word_value c.operation_of.ensures c.form_of-form.ensures c.in-LDR.is c.r1_of.ensures c.operand_of-operand.ensures in
-    omega (arith, d.formed.1)
-
-pub bounds-registers-r-in-LDR : goal.bounds-registers-r-in-LDR
-bounds-registers-r-in-LDR c =
-    let d = decoded _ _ LDR c.requires.word_value c.operation_of.ensures c.form_of-form.ensures c.in-LDR.is c.r1_of.ensures c.operand_of-operand.ensures in
-    omega (arith, d.formed.0)
-
-pub bounds-registers-r-in-CellArithmetic : goal.bounds-registers-r-in-CellArithmetic
-bounds-registers-r-in-CellArithmetic c =
-    let d = decoded _ _ _ c.requires.word_value c.operation_of.ensures c.form_of-form.ensures c.in-CellArithmetic.is c.r1_of.ensures c.operand_of-operand.ensures in
-    omega (arith, d.formed.0)
-
-pub bounds-operands-cell-in-CellArithmetic : goal.bounds-operands-cell-in-CellArithmetic
-bounds-operands-cell-in-CellArithmetic c =
-    let d = decoded _ _ _ c.requires.word_value c.operation_of.ensures c.form_of-form.ensures c.in-CellArithmetic.is c.r1_of.ensures c.operand_of-operand.ensures in
-    cell_in_area _ _ d.formed.1
-
-pub bounds-registers-r-in-CellArithmetic-2 : goal.bounds-registers-r-in-CellArithmetic-2
-bounds-registers-r-in-CellArithmetic-2 c =
-    let d = decoded _ _ _ c.requires.word_value c.operation_of.ensures c.form_of-form.ensures c.in-CellArithmetic.is c.r1_of.ensures c.operand_of-operand.ensures in
-    omega (arith, d.formed.0)
-
-pub bounds-registers-r-in-RegisterArithmetic : goal.bounds-registers-r-in-RegisterArithmetic
-bounds-registers-r-in-RegisterArithmetic c =
-    let d = decoded _ _ _ c.requires.word_value c.operation_of.ensures c.form_of-form.ensures c.in-RegisterArithmetic.is c.r1_of.ensures c.operand_of-operand.ensures in
-    omega (arith, d.formed.0)
-
-pub bounds-registers-index_of-in-RegisterArithmetic : goal.bounds-registers-index_of-in-RegisterArithmetic
-bounds-registers-index_of-in-RegisterArithmetic c =
-    let d = decoded _ _ _ c.requires.word_value c.operation_of.ensures c.form_of-form.ensures c.in-RegisterArithmetic.is c.r1_of.ensures c.operand_of-operand.ensures in
-    omega (arith, d.formed.1)
-
-pub bounds-registers-r-in-RegisterArithmetic-2 : goal.bounds-registers-r-in-RegisterArithmetic-2
-bounds-registers-r-in-RegisterArithmetic-2 c =
-    let d = decoded _ _ _ c.requires.word_value c.operation_of.ensures c.form_of-form.ensures c.in-RegisterArithmetic.is c.r1_of.ensures c.operand_of-operand.ensures in
-    omega (arith, d.formed.0)
-
-pub bounds-registers-r-in-STD : goal.bounds-registers-r-in-STD
-bounds-registers-r-in-STD c =
-    let d = decoded _ _ STD c.requires.word_value c.operation_of.ensures c.form_of-form.ensures c.in-STD.is c.r1_of.ensures c.operand_of-operand.ensures in
-    omega (arith, d.formed.0)
-
-pub bounds-results-cell : goal.bounds-results-cell
-bounds-results-cell c =
-    let d = decoded _ _ STD c.requires.word_value c.operation_of.ensures c.form_of-form.ensures c.in-STD.is c.r1_of.ensures c.operand_of-operand.ensures in
-    cell_in_area _ _ d.formed.1
-
-pub returns-in-Unknown : goal.returns-in-Unknown
-returns-in-Unknown c = absurd (decoded _ _ Unknown c.requires.word_value c.operation_of.ensures c.form_of-form.ensures c.in-Unknown.is c.r1_of.ensures c.operand_of-operand.ensures).formed
 
 pub returns-in-LD : goal.returns-in-LD
 returns-in-LD c =
