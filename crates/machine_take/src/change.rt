@@ -23,7 +23,7 @@ pub(crate) struct Lent<'a> {
 }
 
 #[derive(Clone, Copy)]
-pub enum Change {
+pub(crate) enum Change {
     Issues(Issue),
     Arrives(usize, Fetched),
     Completes(usize, Worked),
@@ -37,10 +37,7 @@ pub enum Change {
 fn operand_cell(operands: &[f64], cell: usize) -> f64
     ensures { result ≡ operand_cell binary64 (cells_alone operands.now) cell }
 {
-    match operands.get(cell) {
-        Some(number) => *number,
-        None => 0.0,
-    }
+    operands.get(cell).copied().unwrap_or(0.0)
 }
 
 fn arrival(b: usize, old: Buffer, operands: &[f64]) -> Result<Change, Refusal>

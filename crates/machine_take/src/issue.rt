@@ -10,7 +10,7 @@ use words::{Areas, Form, word_refusal};
 
 // What an issue takes, by index from 0.
 #[derive(Clone, Copy)]
-pub enum Issue {
+pub(crate) enum Issue {
     // a load, or arithmetic with a cell: R1, the cell, the buffer; of arithmetic also the station
     Loads(usize, usize, usize),
     TakesCell(Operation, usize, usize, usize, usize),
@@ -57,10 +57,9 @@ fn slots_for(m: &Machine, form: Form, r: usize, operand: u32) -> Result<Issue, R
 pub(crate) fn next_issue(m: &Machine, lent: Lent) -> Result<Issue, Refusal>
     ensures { IssuesNext m.now (view_lent lent.entry) result }
 {
-    if lent.words.len() <= m.next {
+    let Some(&word) = lent.words.get(m.next) else {
         return Err(Refusal::NotNow);
-    }
-    let word = lent.words[m.next];
+    };
     let areas = Areas {
         operands: lent.operands.len(),
         results: lent.results,
