@@ -27,10 +27,8 @@ use Rattle.machine_parts.specs.declared.Record.{Record}
 use Rattle.machine_parts.specs.View.{view, view_record, lent}
 use Rattle.machine_parts.specs.Back.{record_of}
 use Rattle.machine_parts.proofs.Exact.{forth}
-use Rattle.machine_steps.specs.declared.advance.Progress.{Progress}
-use Rattle.machine_steps.specs.declared.advance.Stop.{Stop}
 use Rattle.machine_take.specs.Taking.{Taken, take_from}
-use Rattle.machine_steps.specs.Advance.{beginning, stays, stop_of, taken_on, goes, advanced, cells_after}
+use Rattle.machine_steps.specs.Advance.{Progress, Stop, beginning, stays, stop_of, taken_on, goes, advanced, cells_after}
 use Rattle.machine_steps.proofs.Segments.{state_at, on_from, SegmentBy, segment}
 use Rattle.lent_run.specs.ByReleases.{Final, pick, runs, run_by_releases}
 use Rattle.lent_run.specs.Run.{Shows, RunAnswer}

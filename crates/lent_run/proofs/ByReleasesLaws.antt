@@ -6,9 +6,7 @@ use mathlib.Core.List.{List}
 use lib.ListN.{set}
 use lib.Ieee.{Float}
 use Rattle.machine_parts.specs.declared.Record.{Record}
-use Rattle.machine_steps.specs.declared.advance.Progress.{Progress}
-use Rattle.machine_steps.specs.declared.advance.Stop.{Stop}
-use Rattle.machine_steps.specs.Advance.{advanced, cells_after}
+use Rattle.machine_steps.specs.Advance.{Progress, Stop, advanced, cells_after}
 use Rattle.lent_run.specs.ByReleases.{runs, pick}
 
 module _ (words : List ℕ) (operands : List Float) (schedule : List ℕ) (room : ℕ) where

@@ -7,22 +7,24 @@ use Rattle.numbers.proofs.Determined.{DeterminesLent, one_answer}
 use Rattle.machine_parts.specs.declared.Machine.{Machine}
 use Rattle.machine_parts.specs.declared.Record.{Record}
 use Rattle.machine_parts.proofs.Exact.{view_exact, records_exact}
-use Rattle.machine_steps.specs.declared.advance.Progress.{Progress}
+use Rattle.words.proofs.Refusals.{answer_exact}
+use Rattle.machine_steps.specs.declared.advance.Progress as code
+use Rattle.machine_steps.specs.Advance.{view_progress}
 use Rattle.lent_run.specs.Run.{RunAnswer}
 use Rattle.lent_run.proofs.run.run_logged.Kinds as run-logged-kinds
 use Rattle.lent_run.proofs.run.run_logged.Reads as run-logged-reads
 
 -- of `run_schedule`, whose contract is this record: the answer, the cells and the log as it returns
-pub run_schedule_determined : (words : List ℕ) (operands : List Float) (m : Machine) (cells : List Float) (schedule : List ℕ) (log : List Record) (x y : Progress) (cells₁ cells₂ : List Float) (log₁ log₂ : List Record)
-    → RunAnswer words operands m cells schedule log x cells₁ log₁ → RunAnswer words operands m cells schedule log y cells₂ log₂ → (x ≡ y) × (cells₁ ≡ cells₂) × (log₁ ≡ log₂)
+pub run_schedule_determined : (words : List ℕ) (operands : List Float) (m : Machine) (cells : List Float) (schedule : List ℕ) (log : List Record) (x y : code.Progress) (cells₁ cells₂ : List Float) (log₁ log₂ : List Record)
+    → RunAnswer words operands m cells schedule log (view_progress x) cells₁ log₁ → RunAnswer words operands m cells schedule log (view_progress y) cells₂ log₂ → (x ≡ y) × (cells₁ ≡ cells₂) × (log₁ ≡ log₂)
 run_schedule_determined words operands m cells schedule log x y cells₁ cells₂ log₁ log₂ p q =
     let machine = view_exact x.machine y.machine (one_answer p.machine q.machine) in
     let steps = one_answer p.steps q.steps in
     let place = one_answer p.place q.place in
-    let refusal = one_answer p.refusal q.refusal in
+    let refusal = answer_exact x.outcome y.outcome (one_answer p.refusal q.refusal) in
     let records = one_answer p.records q.records in
     let over = one_answer p.over q.over in (
-      λ i. record { machine = machine i; steps = steps i; place = place i; refusal = refusal i; records = records i; going = over i },
+      λ i. record { machine = machine i; steps = steps i; place = place i; outcome = refusal i; records = records i; going = over i },
       one_answer p.cells q.cells,
       records_exact log₁ log₂ (one_answer p.log q.log),
     )

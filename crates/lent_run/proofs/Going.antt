@@ -9,9 +9,7 @@ use lib.Ieee.{Float}
 use lib.ListN.{length, set}
 use Rattle.machine_parts.specs.declared.Machine.{Machine}
 use Rattle.machine_parts.specs.declared.Record.{Record}
-use Rattle.machine_steps.specs.declared.advance.Progress.{Progress}
-use Rattle.machine_steps.specs.declared.advance.Stop.{Stop}
-use Rattle.machine_steps.specs.Advance.{beginning, advanced, cells_after}
+use Rattle.machine_steps.specs.Advance.{Progress, Stop, beginning, advanced, cells_after}
 use Rattle.lent_run.specs.ByReleases.{Final, runs, left, run_by_releases}
 use Rattle.lent_run.proofs.Onward.{progress}
 use Rattle.lent_run.proofs.ByReleasesLaws.{goes_on_lem, is-over}

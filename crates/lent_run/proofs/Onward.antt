@@ -5,8 +5,7 @@ use mathlib.Core.List.{List}
 use Prim.Native.Nat.{ℕ, ◌<◌}
 use native.Mathlib.Omega.{arith}
 use lib.Ieee.{Float}
-use Rattle.machine_steps.specs.declared.advance.Progress.{Progress}
-use Rattle.machine_steps.specs.Advance.{advanced}
+use Rattle.machine_steps.specs.Advance.{Progress, advanced}
 use Rattle.machine_steps.proofs.Moving.{advance_moves}
 use Rattle.lent_run.specs.ByReleases.{left}
 

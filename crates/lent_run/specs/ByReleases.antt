@@ -4,9 +4,7 @@
 use Rattle.std.specs.Prelude.{ℕ, zero, suc, ◌-◌, Bool, true, false, List, length, set, Float}
 use Rattle.machine_parts.specs.declared.Machine.{Machine}
 use Rattle.machine_parts.specs.declared.Record.{Record}
-use Rattle.machine_steps.specs.declared.advance.Progress.{Progress}
-use Rattle.machine_steps.specs.declared.advance.Stop.{Stop}
-use Rattle.machine_steps.specs.Advance.{beginning, advanced, cells_after}
+use Rattle.machine_steps.specs.Advance.{Progress, Stop, beginning, advanced, cells_after}
 
 -- how far the run came, the result cells and the log
 pub record Final : Type 0 where

@@ -5,7 +5,7 @@ use Rattle.theory_run.specs.Run.{ScheduleRun, run, logged_over}
 use Rattle.machine_parts.specs.declared.Machine.{Machine}
 use Rattle.machine_parts.specs.declared.Record.{Record}
 use Rattle.machine_parts.specs.View.{view, view_record, lent}
-use Rattle.machine_steps.specs.declared.advance.Progress.{Progress}
+use Rattle.machine_steps.specs.Advance.{Progress}
 
 -- a log by value: the report's, "The log has 2,048 records."
 abbrev pub log_room : ℕ

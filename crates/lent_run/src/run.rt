@@ -1,19 +1,17 @@
 // A run of a schedule. Crate machine_steps goes on from release to release; the thin writer stores each record in the lent log.
-ghost use Rattle.std.specs.Prelude.{◌≡◌, ltb, length, set};
+ghost use Rattle.std.specs.Prelude.{◌≡◌, set};
+ghost use Rattle.machine_steps.specs.Advance.{view_progress};
 ghost use Rattle.lent_run.specs.Run.{RunAnswer};
 
 use machine_parts::{Machine, Record};
-use machine_steps::advance::{Progress, advance, begun};
+use machine_steps::advance::{Entry, Progress, begun};
 
-// The thin writer: the record goes to the next free index, where there is one.
-pub(crate) fn put_record(log: &mut [Record], at: usize, made: Record) -> bool
-    ensures { (result ≡ ltb at (length log.old)) × (log.new ≡ set log.old at made) }
+// The thin writer: the record goes to its index, where there is one.
+fn put_entry(log: &mut [Record], entry: Entry)
+    ensures { log.new ≡ set log.old entry.index entry.made }
 {
-    if at < log.len() {
-        log[at] = made;
-        true
-    } else {
-        false
+    if entry.index < log.len() {
+        log[entry.index] = entry.made;
     }
 }
 
@@ -26,20 +24,14 @@ pub fn run_schedule(
     schedule: &[u8],
     log: &mut [Record],
 ) -> Progress
-    ensures { RunAnswer words.now operands.now m results.old schedule.now log.old result results.new log.new }
+    ensures { RunAnswer words.now operands.now m results.old schedule.now log.old (view_progress result) results.new log.new }
 {
     let room = log.len();
-    let mut r = begun(m, words, operands, results.len());
-    loop {
-        let s = advance(r, words, operands, results, schedule, room);
-        r = s.progress;
-        if s.released {
-            put_record(log, s.index, s.made);
-        } else {
-            break;
-        }
+    let mut run = begun(m, words, operands, results.len());
+    while let Some(entry) = run.advance(words, operands, results, schedule, room) {
+        put_entry(log, entry);
     }
-    r
+    run
 }
 
 // "The log has 2,048 records."
@@ -52,7 +44,7 @@ pub struct Logged {
     pub log: [Record; LOG_ROOM],
 }
 
-// A run whose log is an array of the caller's own, by value.
+// A run whose log is an array of the caller's own, by value. (Kept beside the lent form: `run_logged_determined` speaks of it.)
 pub fn run_logged(
     m: Machine,
     words: &[u32],
@@ -61,7 +53,7 @@ pub fn run_logged(
     schedule: &[u8],
     log: [Record; LOG_ROOM],
 ) -> Logged
-    ensures { RunAnswer words.now operands.now m results.old schedule.now log result.run results.new result.log }
+    ensures { RunAnswer words.now operands.now m results.old schedule.now log (view_progress result.run) results.new result.log }
 {
     let mut rows = log;
     let done = run_schedule(m, words, operands, results, schedule, &mut rows);

@@ -6,6 +6,8 @@ use lib.Ieee.{Float}
 use Rattle.numbers.proofs.Determined.{DeterminesLent, one_answer}
 use Rattle.machine_parts.specs.declared.Machine.{Machine}
 use Rattle.machine_parts.proofs.Exact.{view_exact}
+use Rattle.words.specs.Refusals.{answer_number}
+use Rattle.words.proofs.Refusals.{answer_exact}
 use Rattle.lent_step.specs.InPlace.{InPlace}
 use Rattle.lent_step.proofs.step_by_place.Kinds as step-by-place-kinds
 use Rattle.lent_step.proofs.step_by_place.Reads as step-by-place-reads
@@ -18,5 +20,6 @@ step_in_place_determined words operands m cells code x y m₁ m₂ cells₁ cell
 
 pub step_by_place_determined : DeterminesLent 3 step-by-place-kinds.ps step-by-place-kinds.r step-by-place-reads.Post (λ κs s. s.1.1.1.0.now)
 step_by_place_determined κs a x y s t p q =
-    let e = step_in_place_determined _ _ _ _ _ x.refusal y.refusal x.machine y.machine _ _ p q in
-    ((λ i. record { machine = e.1 i; refusal = e.0 i }), e.2)
+    let e = step_in_place_determined _ _ _ _ _ (answer_number x.outcome) (answer_number y.outcome) x.machine y.machine _ _ p q in
+    let o = answer_exact x.outcome y.outcome e.0 in
+    ((λ i. record { machine = e.1 i; outcome = o i }), e.2)

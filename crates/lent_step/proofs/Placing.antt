@@ -4,6 +4,7 @@ use mathlib.Core.Logic.{◌≢◌}
 use mathlib.Core.List.{List}
 use Prim.Native.Nat.{ℕ}
 use lib.Ieee.{Float}
+use Rattle.words.specs.Refusals.{answer_number}
 use Rattle.theory_machine.specs.Issue.{Answer}
 use Rattle.theory_machine.specs.Asked.{written}
 use Rattle.theory_machine.specs.Binary64.{binary64}
@@ -16,7 +17,7 @@ use Rattle.machine_steps.specs.Step.{StepAnswer}
 use Rattle.lent_step.specs.InPlace.{InPlace}
 
 pub placed : (words : List ℕ) (operands : List Float) (m : Machine) (cells : List Float) (code : ℕ) (r : Stepped) (cells' : List Float) → StepAnswer words operands m cells code r cells'
-    → InPlace words operands m cells code r.refusal r.machine cells'
+    → InPlace words operands m cells code (answer_number r.outcome) r.machine cells'
 placed words operands m cells code r cells' s = record {
   answered = ap (λ (a : Answer Float). a.refusal) s.answer;
   altered = ap (λ (a : Answer Float). a.machine) s.answer;

@@ -1,16 +1,18 @@
 // One step of the caller's own machine. The step itself is crate machine_steps's, by value.
 #![tactic(auto)]
 
+ghost use Rattle.words.specs.Refusals.{answer_number};
 ghost use Rattle.lent_step.specs.InPlace.{InPlace};
 
 use machine_parts::Machine;
 use machine_steps::step::step;
+use words::refusal::Refusal;
 
-// What the entry by value answers: the machine, and a refusal number of 01 (0 for accepted).
+// What the entry by value answers: the machine, and the refusal, if there is one.
 #[derive(Clone, Copy)]
 pub struct Placed {
     pub machine: Machine,
-    pub refusal: u32,
+    pub outcome: Result<(), Refusal>,
 }
 
 // "One thin entry alters the caller's own machine where it stands and answers the refusal number"
@@ -20,15 +22,16 @@ pub fn step_in_place(
     operands: &[f64],
     results: &mut [f64],
     code: u32,
-) -> u32
-    ensures { InPlace words.now operands.now m.old results.old code result m.new results.new }
+) -> Result<(), Refusal>
+    ensures { InPlace words.now operands.now m.old results.old code (answer_number result) m.new results.new }
 {
-    let s = step(*m, words, operands, results, code);
-    *m = s.machine;
-    s.refusal
+    let stepped = step(*m, words, operands, results, code);
+    *m = stepped.machine;
+    stepped.outcome?;
+    Ok(())
 }
 
-// By value again, over the thin entry.
+// By value again, over the thin entry. (Kept beside it: `step_by_place_determined` speaks of it.)
 pub fn step_by_place(
     m: Machine,
     words: &[u32],
@@ -36,12 +39,9 @@ pub fn step_by_place(
     results: &mut [f64],
     code: u32,
 ) -> Placed
-    ensures { InPlace words.now operands.now m results.old code result.refusal result.machine results.new }
+    ensures { InPlace words.now operands.now m results.old code (answer_number result.outcome) result.machine results.new }
 {
-    let mut own = m;
-    let number = step_in_place(&mut own, words, operands, results, code);
-    Placed {
-        machine: own,
-        refusal: number,
-    }
+    let mut machine = m;
+    let outcome = step_in_place(&mut machine, words, operands, results, code);
+    Placed { machine, outcome }
 }

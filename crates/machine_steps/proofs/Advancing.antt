@@ -19,16 +19,19 @@ use Rattle.theory_machine.specs.Binary64.{binary64}
 use Rattle.theory_machine.specs.Asked.{written}
 use Rattle.machine_parts.specs.declared.Machine.{Machine}
 use Rattle.machine_parts.specs.declared.Record.{Record}
-use Rattle.machine_parts.specs.declared.Released.TheVariants.{Nothing, One}
 use Rattle.machine_parts.specs.View.{view, view_released, lent_with}
+use Rattle.std.specs.Prelude as given
+use Rattle.std.specs.Prelude.{Some, None, Result, Ok, Err}
+use Rattle.words.specs.declared.refusal.Refusal.{Refusal}
+use Rattle.machine_parts.specs.View.{released_by}
 use Rattle.machine_parts.proofs.Exact.{back}
-use Rattle.machine_steps.specs.declared.advance.Progress.{Progress}
-use Rattle.machine_steps.specs.declared.advance.Stop.{Stop}
+use Rattle.machine_steps.specs.declared.advance.Progress as code
+use Rattle.machine_steps.specs.declared.advance.Entry.{Entry}
 use Rattle.machine_take.specs.declared.taking.Taken as declared
 use Rattle.machine_take.specs.Taking as taking
-use Rattle.machine_take.specs.Taking.{Taken, view_taken, by_number, by_release, after_step, take_from}
+use Rattle.machine_take.specs.Taking.{Taken, view_taken, stopped, by_number, by_release, after_step, take_from}
 use Rattle.machine_take.proofs.Counted.{counted, counted_on, few-steps}
-use Rattle.machine_steps.specs.Advance.{run_refusal, beginning, stays, stop_of, taken_on, goes, advanced, cells_after}
+use Rattle.machine_steps.specs.Advance.{Progress, Stop, view_progress, view_stop, run_refusal, beginning, stays, stop_of, taken_on, goes, advanced, cells_after}
 
 pub begins_so : (m : Machine) (words : List ℕ) (operands : List Float) (results : ℕ) {n : ℕ} → n ≡ run_refusal m words operands results
     → record { machine = m; steps = 0; place = 0; refusal = n; records = 0; going = eqb n 0 } ≡ beginning m words operands results
@@ -81,11 +84,11 @@ module _ (p : Progress) (words : List ℕ) (operands cells : List Float) (schedu
   pub never : p.going ≡ true → p.place < p.steps → {r : Stop} → r ≡ stays p → Stops r cells
   never g h e = over (rw (g, lt-ltb p.place p.steps h)) e
 
-  module _ (g : p.going ≡ true) (h : p.steps ≤ p.place) (t : declared.Taken)
-      (q : view_taken t ≡ take_from (lent_with words operands (length cells)) (ltb p.records room) schedule (length schedule) (view p.machine) 0 p.place) {cells' : List Float}
-      (w : cells' ≡ written cells (view_released t.released)) where
+  module _ (g : p.going ≡ true) (h : p.steps ≤ p.place) (t : Taken)
+      (q : t ≡ take_from (lent_with words operands (length cells)) (ltb p.records room) schedule (length schedule) (view p.machine) 0 p.place) {cells' : List Float}
+      (w : cells' ≡ written cells t.released) where
     -- with the steps before
-    e : counted p.steps (view_taken t) ≡ taken_on p words operands cells schedule room
+    e : counted p.steps t ≡ taken_on p words operands cells schedule room
     e = ap (counted p.steps) q ∙ sym (counted_on (lent_with words operands (length cells)) (ltb p.records room) schedule p.steps (length schedule) (view p.machine) p.steps 0 p.place (omega arith))
 
     pub few : t.steps ≤ length schedule - p.place
@@ -97,44 +100,47 @@ module _ (p : Progress) (words : List ℕ) (operands cells : List Float) (schedu
     going_on : goes p words operands cells schedule room ≡ true
     going_on = rw (g, le-ltb p.place p.steps h)
 
-    pub has_room : (made : Record) → t.released ≡ One made → p.records < room
-    has_room made z =
+    pub has_room : {r : theory.Record Float} → t.released ≡ some r → p.records < room
+    has_room z =
         ltb-true p.records room
         (released-room (lent_with words operands (length cells)) schedule (ltb p.records room) (length schedule) (view p.machine) p.steps p.place
-        (sym (ap (λ (t : Taken). t.released) e) ∙ ap view_released z))
+        (sym (ap (λ (t : Taken). t.released) e) ∙ z))
 
     cells-so : cells' ≡ cells_after p words operands cells schedule room
     unfolding cells_after
     cells-so = w ∙ ap (λ (t : Taken). written cells t.released) e ∙ rw going_on
 
-    stop-so : stop_of p (counted p.steps (view_taken t)) (view_released t.released) ≡ advanced p words operands cells schedule room
+    pub stopped_so : Stops (stop_of p (counted p.steps t) t.released) cells'
     unfolding advanced
-    stop-so = ap (λ (t : Taken). stop_of p t t.released) e ∙ rw going_on
+    stopped_so = (ap (λ (t : Taken). stop_of p t t.released) e ∙ rw going_on, cells-so)
 
-    pub no_release : t.released ≡ Nothing → {r : Stop}
-        → r ≡ stays (record { machine = t.machine; steps = p.steps + t.steps; place = t.place; refusal = t.refusal; records = p.records; going = false })
-        → Stops r cells'
-    no_release z q = (
-      q
-          ∙ ap (λ (m : Machine). stays (record { machine = m; steps = p.steps + t.steps; place = t.place; refusal = t.refusal; records = p.records; going = false })) (sym (back t.machine))
-          ∙ (rw z at stop-so),
-      cells-so,
-    )
+-- THE CODE'S PROGRESS after codes were taken, by what they came to
+module _ (p : code.Progress) (words : List ℕ) (operands cells : List Float) (schedule : List ℕ) (room : ℕ) (g : p.going ≡ true) (h : p.steps ≤ p.place) (t : declared.Taken)
+    (q : view_taken t ≡ take_from (lent_with words operands (length cells)) (ltb p.records room) schedule (length schedule) (view p.machine) 0 p.place) {cells' : List Float}
+    (w : cells' ≡ written cells (released_by t.outcome)) where
+  abbrev onward : Result Unit Refusal → (records : ℕ) → (going : Bool) → Machine → code.Progress
+  onward o records going m = record { machine = m; steps = p.steps + t.steps; place = t.place; outcome = o; records = records; going = going }
 
-    pub release : (made : Record) → t.released ≡ One made
-        → Stops (record {
-          progress = record { machine = t.machine; steps = p.steps + t.steps; place = t.place; refusal = t.refusal; records = p.records + 1; going = true };
-          made = made;
-          index = p.records;
-          released = true;
-        }) cells'
-    release made z = (
-      ap (λ (m : Machine). record {
-        progress = record { machine = m; steps = p.steps + t.steps; place = t.place; refusal = t.refusal; records = p.records + 1; going = true };
-        made = made;
-        index = p.records;
-        released = true;
-      }) (sym (back t.machine))
-          ∙ (rw z at stop-so),
-      cells-so,
-    )
+  abbrev StopsAt : code.Progress → given.Option Entry → Type 0
+  StopsAt p' e = Stops (view_progress p) words operands cells schedule room (view_stop p' e) cells'
+
+  -- what the stop shows, of the machine that the view gives back
+  shown : (o : Result (given.Option Record) Refusal) → t.outcome ≡ o
+      → Stops (view_progress p) words operands cells schedule room (stop_of (view_progress p) (counted p.steps (stopped t o)) (released_by o)) cells'
+  shown o z = rw z at (stopped_so (view_progress p) words operands cells schedule room g h (view_taken t) q w)
+
+  pub at_refusal : (r : Refusal) → t.outcome ≡ Err r → StopsAt (onward (Err r) p.records false t.machine) None
+  at_refusal r z =
+      let s = shown (Err r) z in
+      (ap (λ (m : Machine). view_stop (onward (Err r) p.records false m) None) (sym (back t.machine)) ∙ s.0, s.1)
+
+  pub at_end : t.outcome ≡ Ok None → StopsAt (onward (Ok tt) p.records false t.machine) None
+  at_end z =
+      let s = shown (Ok None) z in
+      (ap (λ (m : Machine). view_stop (onward (Ok tt) p.records false m) None) (sym (back t.machine)) ∙ s.0, s.1)
+
+  pub at_release : (made : Record) → t.outcome ≡ Ok (Some made)
+      → StopsAt (onward (Ok tt) (p.records + 1) true t.machine) (Some (record { index = p.records; made = made }))
+  at_release made z =
+      let s = shown (Ok (Some made)) z in
+      (ap (λ (m : Machine). view_stop (onward (Ok tt) (p.records + 1) true m) (Some (record { index = p.records; made = made }))) (sym (back t.machine)) ∙ s.0, s.1)

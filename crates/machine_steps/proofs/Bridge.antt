@@ -17,7 +17,7 @@ use Rattle.theory_machine.specs.Entries.{list_refusal, Fresh, fresh}
 use Rattle.theory_machine.specs.Asked.{State, written, logged, after, ask, asked, taken_of, begin}
 use Rattle.theory_machine.proofs.Theorems.{order_theorem}
 use Rattle.machine_parts.specs.declared.Stepped.{Stepped}
-use Rattle.machine_parts.specs.View.{view, view_released, lent}
+use Rattle.machine_parts.specs.View.{view, released_by, lent}
 use Rattle.machine_steps.specs.Step.{StepAnswer}
 use Rattle.machine_steps.specs.Chain.{Stand, seen, freshly, next, Chained, here, then, taken_in, Bridge, DemandThree}
 
@@ -36,7 +36,7 @@ module _ (words : List ℕ) (operands : List Float) where
       → ask binary64 (lent words operands s.cells) (seen s) code ≡ seen (next s r cells)
   one s code r cells a =
       ap (after (seen s)) (sym a.answer)
-      ∙ ap (λ (c : List Float). record { machine = view r.machine; cells = c; log = logged s.log (view_released r.released) }) (sym a.after)
+      ∙ ap (λ (c : List Float). record { machine = view r.machine; cells = c; log = logged s.log (released_by r.outcome) }) (sym a.after)
 
   -- what is made of the state after one code asked is made of where its answer leads
   onward : {B : Type 0} (made : Lent Float → State Float → B) (s : Stand) (code : ℕ) (r : Stepped) (cells : List Float)
@@ -44,7 +44,7 @@ module _ (words : List ℕ) (operands : List Float) where
       → made (lent words operands s.cells) (ask binary64 (lent words operands s.cells) (seen s) code)
       ≡ made (lent words operands cells) (seen (next s r cells))
   onward made s code r cells a =
-      let long = sym (ap length a.after ∙ written-long s.cells (view_released r.released)) in
+      let long = sym (ap length a.after ∙ written-long s.cells (released_by r.outcome)) in
       (λ i. made (same-lent s.cells cells long i) (one s code r cells a i))
 
   pub bridge : Bridge words operands

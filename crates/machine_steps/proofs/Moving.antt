@@ -16,11 +16,9 @@ use Rattle.theory_machine.specs.Issue.{Answer, is_taken}
 use Rattle.theory_machine.specs.Binary64.{binary64}
 use Rattle.theory_machine.specs.Steps.{perform}
 use Rattle.theory_machine.proofs.Rows.{cond_cases}
-use Rattle.machine_steps.specs.declared.advance.Progress.{Progress}
-use Rattle.machine_steps.specs.declared.advance.Stop.{Stop}
 use Rattle.machine_take.specs.Taking.{Taken, ended_at, by_number, by_release, after_step, take_from}
 use Rattle.machine_steps.specs.Advance as advance
-use Rattle.machine_steps.specs.Advance.{taken_on, goes, advanced}
+use Rattle.machine_steps.specs.Advance.{Progress, Stop, taken_on, goes, advanced}
 use Rattle.machine_take.proofs.Forwards.{moves_on}
 
 module _ (schedule : List ℕ) where

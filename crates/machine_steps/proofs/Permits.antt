@@ -5,6 +5,7 @@ use mathlib.Core.List.{List, [], ◌∷◌}
 use Prim.Native.Nat.{ℕ, ◌<◌}
 use lib.Dec.{eqb}
 use lib.Ieee.{Float}
+use Rattle.words.specs.Refusals.{answer_number}
 use Rattle.theory_machine.specs.Rows.{first}
 use Rattle.theory_machine.specs.Codes.{code_limit}
 use Rattle.theory_machine.specs.Issue.{is_taken}
@@ -28,6 +29,6 @@ lowest_is m words operands results = refl
 
 -- the refusal of its one byte says it
 pub permitted : (t : declared.Taken) (m : Machine) (words : List ℕ) (operands : List Float) (results code : ℕ) → code < 128
-    → view_taken t ≡ take_from (lent_with words operands results) true (code ∷ []) 1 (view m) 0 0 → eqb t.refusal 0 ≡ permits m words operands results code
+    → view_taken t ≡ take_from (lent_with words operands results) true (code ∷ []) 1 (view m) 0 0 → eqb (answer_number t.outcome) 0 ≡ permits m words operands results code
 permitted t m words operands results code h e =
     ap (λ (n : ℕ). eqb n 0) (ap (λ (t : Taken). t.refusal) e ∙ (one_step (lent_with words operands results) (view m) code h).refusal)

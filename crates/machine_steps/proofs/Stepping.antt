@@ -22,9 +22,11 @@ use Rattle.theory_machine.specs.Codes.{unknown_code, step_of}
 use Rattle.theory_machine.specs.Steps.{perform, in_order, step}
 use Rattle.theory_machine.specs.Asked.{written}
 use Rattle.machine_parts.specs.declared.Machine.{Machine}
-use Rattle.machine_parts.specs.declared.Released.TheVariants.{Nothing}
+use Rattle.std.specs.Prelude.{Err}
+use Rattle.words.specs.declared.refusal.Refusal.{Refusal}
+use Rattle.words.specs.declared.refusal.Refusal.TheVariants as refusal
 use Rattle.machine_parts.specs.declared.Stepped.{Stepped}
-use Rattle.machine_parts.specs.View.{view, view_released, view_stepped, lent}
+use Rattle.machine_parts.specs.View.{view, released_by, view_stepped, lent}
 use Rattle.machine_steps.specs.Step.{StepAnswer}
 
 -- every known code is one byte
@@ -58,7 +60,7 @@ module _ (L : Lent Float) (m : theory.Machine Float) (code : ℕ) where
   one_step h = rw (one_number h) (by_answer (perform binary64 L m code) (of_perform binary64 L m code))
 
   pub stepped_is : (t : declared.Taken) → view_taken t ≡ take_from L true (code ∷ []) 1 m 0 0 → code < 128
-      → view_stepped (record { machine = t.machine; refusal = t.refusal; released = t.released }) ≡ perform binary64 L m code
+      → view_stepped (record { machine = t.machine; outcome = t.outcome }) ≡ perform binary64 L m code
   stepped_is t e h =
       let o = one_step h in
       let machines = ap (λ (t : Taken). t.machine) e ∙ o.machine in
@@ -67,32 +69,32 @@ module _ (L : Lent Float) (m : theory.Machine Float) (code : ℕ) where
       λ i. record { refusal = refusals i; machine = machines i; released = releases i }
 
 module _ (words : List ℕ) (operands : List Float) (m : Machine) (cells : List Float) (code : ℕ) where
-  abbrev unchanged : ℕ → Stepped
-  unchanged n = record { machine = m; refusal = n; released = Nothing }
+  abbrev unchanged : Refusal → Stepped
+  unchanged r = record { machine = m; outcome = Err r }
 
   -- a refused step leaves machine and cells as found
-  refused-answer : (n : ℕ) {r : Stepped} → r ≡ unchanged n → view_stepped (unchanged n) ≡ step binary64 (lent words operands cells) (view m) code
+  refused-answer : (n : Refusal) {r : Stepped} → r ≡ unchanged n → view_stepped (unchanged n) ≡ step binary64 (lent words operands cells) (view m) code
       → StepAnswer words operands m cells code r cells
   refused-answer n e s = record { answer = ap view_stepped e ∙ s; after = rw e }
 
-  pub too_long_lem : list_limit < length words → {r : Stepped} → r ≡ unchanged 1 → StepAnswer words operands m cells code r cells
+  pub too_long_lem : list_limit < length words → {r : Stepped} → r ≡ unchanged refusal.List → StepAnswer words operands m cells code r cells
   unfolding step
-  too_long_lem h e = refused-answer 1 e (rw (lt-ltb list_limit (length words) h))
+  too_long_lem h e = refused-answer refusal.List e (rw (lt-ltb list_limit (length words) h))
 
   module _ (short : length words ≤ list_limit) where
-    pub disordered : in_order binary64 (lent words operands cells) (view m) ≡ false → {r : Stepped} → r ≡ unchanged 6
+    pub disordered : in_order binary64 (lent words operands cells) (view m) ≡ false → {r : Stepped} → r ≡ unchanged refusal.Order
         → StepAnswer words operands m cells code r cells
     unfolding step
-    disordered o e = refused-answer 6 e (rw (le-ltb list_limit (length words) short, o))
+    disordered o e = refused-answer refusal.Order e (rw (le-ltb list_limit (length words) short, o))
 
     pub performed : in_order binary64 (lent words operands cells) (view m) ≡ true → {r : Stepped} {cells' : List Float}
-        → view_stepped r ≡ perform binary64 (lent words operands cells) (view m) code → cells' ≡ written cells (view_released r.released)
+        → view_stepped r ≡ perform binary64 (lent words operands cells) (view m) code → cells' ≡ written cells (released_by r.outcome)
         → StepAnswer words operands m cells code r cells'
     unfolding step
     performed o e w = record { answer = e ∙ rw (le-ltb list_limit (length words) short, o); after = w }
 
     -- a code beyond one byte
-    pub unknown : in_order binary64 (lent words operands cells) (view m) ≡ true → 127 < code → {r : Stepped} → r ≡ unchanged 5
+    pub unknown : in_order binary64 (lent words operands cells) (view m) ≡ true → 127 < code → {r : Stepped} → r ≡ unchanged refusal.Code
         → StepAnswer words operands m cells code r cells
     unfolding step perform
-    unknown o h e = refused-answer 5 e (rw (le-ltb list_limit (length words) short, o, no_code code h))
+    unknown o h e = refused-answer refusal.Code e (rw (le-ltb list_limit (length words) short, o, no_code code h))

@@ -1,5 +1,6 @@
 -- Answers of `step`, chained over any codes; and demand 3 of them. Nothing is said of how an answer was made: only that it meets its contract.
 use Rattle.std.specs.Prelude.{◌≡◌, cond, List, [], ◌∷◌, ℕ, ◌+◌, eqb, Float, length}
+use Rattle.words.specs.Refusals.{answer_number}
 use Rattle.theory_machine.specs.Machine as theory
 use Rattle.theory_machine.specs.Tags.{register_count}
 use Rattle.theory_machine.specs.Binary64.{binary64}
@@ -10,7 +11,7 @@ use Rattle.theory_machine.specs.Statement.{Outcome}
 use Rattle.machine_parts.specs.declared.Machine.{Machine}
 use Rattle.machine_parts.specs.declared.Stepped.{Stepped}
 use Rattle.machine_parts.specs.declared.start.FreshMachine.{FreshMachine}
-use Rattle.machine_parts.specs.View.{view, view_released, lent}
+use Rattle.machine_parts.specs.View.{view, released_by, lent}
 use Rattle.machine_parts.specs.Answers.{view_fresh}
 use Rattle.machine_steps.specs.Step.{StepAnswer}
 
@@ -30,7 +31,7 @@ freshly f cells = record { machine = f.machine; cells = cells; log = [] }
 
 -- where an answer of `step` leads
 abbrev pub next : Stand → Stepped → (cells : List Float) → Stand
-next s r cells = record { machine = r.machine; cells = cells; log = logged s.log (view_released r.released) }
+next s r cells = record { machine = r.machine; cells = cells; log = logged s.log (released_by r.outcome) }
 
 module _ (words : List ℕ) (operands : List Float) where
   -- from one stand to another by answers that meet the contract of `step`, one for each code
@@ -45,7 +46,7 @@ module _ (words : List ℕ) (operands : List Float) where
   abbrev pub taken_in : (s t : Stand) (codes : List ℕ) → Chained s codes t → ℕ
   taken_in s t codes here = 0
   taken_in s t codes (then {codes = rest} r cells a chain) =
-      cond (eqb r.refusal 0) 1 0
+      cond (eqb (answer_number r.outcome) 0) 1 0
       + taken_in (next s r cells) t rest chain
 
   -- THE BRIDGE: chained answers are the theory's `asked`, cells and releases with them
@@ -58,7 +59,7 @@ module _ (words : List ℕ) (operands : List Float) where
   DemandThree =
       (starts cells : List Float) → length starts ≡ register_count → (f : FreshMachine)
       → view_fresh f ≡ fresh binary64 (lent words operands cells) starts
-      → f.refusal ≡ 0
+      → answer_number f.outcome ≡ 0
       → (t : Stand) (codes : List ℕ) (chain : Chained (freshly f cells) codes t)
       → let L = lent words operands cells in
       let start : Run Float = record { registers = starts; cells = cells } in

@@ -9,56 +9,31 @@ use good_order::entry_refusal;
 use machine_parts::Machine;
 use machine_slots::code::CODE_LIMIT;
 use machine_take::taking::take_codes;
-use words::{Areas, refusal};
+use words::Areas;
+use words::refusal::Refusal;
 
-#[derive(Clone, Copy)]
-pub enum Lowest {
-    Nothing,
-    Code(u32),
-}
-
-// The answer of `lowest_step`: a refusal number of 01, 0 for accepted, and the smallest permitted code, or none.
-#[derive(Clone, Copy)]
-pub struct LowestStep {
-    pub refusal: u32,
-    pub code: Lowest,
-}
-
-fn lowest_permitted(m: Machine, words: &[u32], operands: &[f64], results: usize) -> Lowest
+fn lowest_permitted(m: Machine, words: &[u32], operands: &[f64], results: usize) -> Option<u32>
     ensures { view_lowest result ≡ lowest_permitted binary64 (lent_with words.now operands.now results) (view m) }
 {
-    let mut code = 0;
-    while code < CODE_LIMIT {
-        let schedule: [u8; 1] = [code as u8];
+    for code in 0..CODE_LIMIT {
+        let schedule = [code as u8];
         let taken = take_codes(m, words, operands, results, &schedule, 0, true);
-        if taken.refusal == 0 {
-            return Lowest::Code(code);
+        if taken.outcome.is_ok() {
+            return Some(code);
         }
-        code += 1;
     }
-    Lowest::Nothing
+    None
 }
 
-// The list is checked against its areas, then the machine; none when refused, and exactly when drained.
-pub fn lowest_step(m: Machine, words: &[u32], operands: &[f64], results: &[f64]) -> LowestStep
+// The list is checked against its areas, then the machine; none exactly when drained.
+pub fn lowest_step(
+    m: Machine,
+    words: &[u32],
+    operands: &[f64],
+    results: &[f64],
+) -> Result<Option<u32>, Refusal>
     ensures { view_lowest_step result ≡ lowest_step binary64 (lent words.now operands.now results.now) (view m) }
 {
-    let refused = entry_refusal(
-        m,
-        words,
-        Areas {
-            operands: operands.len(),
-            results: results.len(),
-        },
-    );
-    if refused != refusal::ACCEPTED {
-        return LowestStep {
-            refusal: refused,
-            code: Lowest::Nothing,
-        };
-    }
-    LowestStep {
-        refusal: refusal::ACCEPTED,
-        code: lowest_permitted(m, words, operands, results.len()),
-    }
+    entry_refusal(m, words, Areas::of(operands, results))?;
+    Ok(lowest_permitted(m, words, operands, results.len()))
 }

@@ -1,5 +1,4 @@
 pub mod Back
 pub mod Determined
+pub mod Made
 pub mod Rows
-pub mod Tests
-pub mod Words

@@ -5,8 +5,6 @@ use Rattle.std.proofs.lemmas.List.Edits.{sets}
 use Rattle.numbers.specs.declared.Operation.{Operation}
 use Rattle.numbers.specs.declared.Operation.TheVariants.{Add, Subtract, Multiply, Divide}
 use Rattle.numbers.specs.Number.{pattern_of, number_of}
-use Rattle.machine_parts.specs.declared.Fetched.{Fetched}
-use Rattle.machine_parts.specs.declared.Worked.{Worked}
 use Rattle.theory_machine.specs.Tags.{register_count, buffer_count, station_count, store_count}
 use Rattle.theory_machine.specs.Machine.{Machine, Operand, num, tag, Buffer, free_buffer, waiting, full, Station, free_station, holding, done, StoreBuffer, free_store, live, standing}
 use Rattle.machine_words.specs.Rows.{word_at}
@@ -54,13 +52,6 @@ module _ (image : List ℕ) where
   operation_at p =
       let w = word_at image p in
       cond (eqb w 0) Add (cond (eqb w 1) Subtract (cond (eqb w 2) Multiply Divide))
-
-  -- a place in the list and a number, of a full buffer or of a station that is done
-  abbrev pub fetched_at : (place : ℕ) → Fetched
-  fetched_at p = record { place = word_at image p; number = number_of (word_at image (p + 1)) }
-
-  abbrev pub worked_at : (place : ℕ) → Worked
-  worked_at p = record { place = word_at image p; number = number_of (word_at image (p + 1)) }
 
   abbrev pub buffer_at : (place : ℕ) → Buffer Float
   buffer_at p =

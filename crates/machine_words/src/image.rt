@@ -1,30 +1,48 @@
 // A machine read from its row of words (specs/Image.antt).
 ghost use Rattle.std.specs.Prelude.{◌≡◌, ◌+◌, ◌≤◌};
 ghost use Rattle.machine_parts.specs.View.{view_operand, view_register, view_buffer, view_station, view_store, view};
+ghost use Rattle.machine_words.specs.Rows as rows;
 ghost use Rattle.machine_words.specs.Image as image;
 ghost use Rattle.machine_words.specs.Image.{machine_in, image_length};
 
 use crate::layout::{
-    BUFFER_0, BUFFER_1, BUFFER_2, BUFFER_3, BUFFER_4, BUFFER_5, NEXT, REGISTER_0, REGISTER_1,
-    REGISTER_2, REGISTER_3, STATION_0, STATION_1, STATION_2, STATION_3, STATION_4, STORE_0,
-    STORE_1, STORE_2,
+    BUFFER_WIDTH, BUFFERS, NEXT, REGISTER_WIDTH, REGISTERS, STATION_WIDTH, STATIONS, STORE_WIDTH,
+    STORES,
 };
-use crate::row::word_or_zero;
+use crate::row::value_or;
 use machine_parts::{
     Buffer, BufferState, Fetch, Fetched, Machine, Operand, Pending, Register, Station,
     StationState, StoreBuffer, StoreState, Tag, Work, Worked,
 };
 use numbers::Operation;
+use std::array;
+
+fn word_at(row: &[u64], place: usize) -> u64
+    ensures { result ≡ rows.word_at row.now place }
+{
+    value_or(row, place, 0)
+}
 
 fn operand_at(row: &[u64], place: usize) -> Operand
     requires { place + 2 ≤ image_length }
     ensures { view_operand result ≡ image.operand_at row.now place }
 {
-    let value = word_or_zero(row, place + 1);
-    if word_or_zero(row, place) == 0 {
-        return Operand::Number(numbers::number_of(value));
+    let value = word_at(row, place + 1);
+    match word_at(row, place) {
+        0 => Operand::Number(numbers::number_of(value)),
+        _ => Operand::Waits(Tag((value % 256) as u8)),
     }
-    Operand::Waits(Tag((value % 256) as u8))
+}
+
+fn operation_at(row: &[u64], place: usize) -> Operation
+    ensures { result ≡ image.operation_at row.now place }
+{
+    match word_at(row, place) {
+        0 => Operation::Add,
+        1 => Operation::Subtract,
+        2 => Operation::Multiply,
+        _ => Operation::Divide,
+    }
 }
 
 fn register_at(row: &[u64], place: usize) -> Register
@@ -36,141 +54,67 @@ fn register_at(row: &[u64], place: usize) -> Register
     }
 }
 
-fn operation_at(row: &[u64], place: usize) -> Operation
-    ensures { result ≡ image.operation_at row.now place }
-{
-    let word = word_or_zero(row, place);
-    if word == 0 {
-        return Operation::Add;
-    }
-    if word == 1 {
-        return Operation::Subtract;
-    }
-    if word == 2 {
-        return Operation::Multiply;
-    }
-    Operation::Divide
-}
-
-fn fetched_at(row: &[u64], place: usize) -> Fetched
-    requires { place + 2 ≤ image_length }
-    ensures { result ≡ image.fetched_at row.now place }
-{
-    Fetched {
-        place: word_or_zero(row, place) as usize,
-        number: numbers::number_of(word_or_zero(row, place + 1)),
-    }
-}
-
-fn worked_at(row: &[u64], place: usize) -> Worked
-    requires { place + 2 ≤ image_length }
-    ensures { result ≡ image.worked_at row.now place }
-{
-    Worked {
-        place: word_or_zero(row, place) as usize,
-        number: numbers::number_of(word_or_zero(row, place + 1)),
-    }
-}
-
 fn buffer_at(row: &[u64], place: usize) -> Buffer
     requires { place + 3 ≤ image_length }
     ensures { view_buffer result ≡ image.buffer_at row.now place }
 {
-    let state = word_or_zero(row, place);
-    if state == 0 {
-        return Buffer {
-            state: BufferState::Free,
-        };
-    }
-    if state == 1 {
-        let fetch = Fetch {
-            place: word_or_zero(row, place + 1) as usize,
-            cell: word_or_zero(row, place + 2) as usize,
-        };
-        return Buffer {
-            state: BufferState::Waiting(fetch),
-        };
-    }
-    Buffer {
-        state: BufferState::Full(fetched_at(row, place + 1)),
-    }
+    let state = match word_at(row, place) {
+        0 => BufferState::Free,
+        1 => BufferState::Waiting(Fetch {
+            place: word_at(row, place + 1) as usize,
+            cell: word_at(row, place + 2) as usize,
+        }),
+        _ => BufferState::Full(Fetched {
+            place: word_at(row, place + 1) as usize,
+            number: numbers::number_of(word_at(row, place + 2)),
+        }),
+    };
+    Buffer { state }
 }
 
 fn station_at(row: &[u64], place: usize) -> Station
     requires { place + 7 ≤ image_length }
     ensures { view_station result ≡ image.station_at row.now place }
 {
-    let state = word_or_zero(row, place);
-    if state == 0 {
-        return Station {
-            state: StationState::Free,
-        };
-    }
-    if state == 1 {
-        let work = Work {
-            place: word_or_zero(row, place + 1) as usize,
+    let state = match word_at(row, place) {
+        0 => StationState::Free,
+        1 => StationState::Holding(Work {
+            place: word_at(row, place + 1) as usize,
             operation: operation_at(row, place + 2),
             sink: operand_at(row, place + 3),
             source: operand_at(row, place + 5),
-        };
-        return Station {
-            state: StationState::Holding(work),
-        };
-    }
-    Station {
-        state: StationState::Done(worked_at(row, place + 1)),
-    }
+        }),
+        _ => StationState::Done(Worked {
+            place: word_at(row, place + 1) as usize,
+            number: numbers::number_of(word_at(row, place + 2)),
+        }),
+    };
+    Station { state }
 }
 
 fn store_at(row: &[u64], place: usize) -> StoreBuffer
     requires { place + 5 ≤ image_length }
     ensures { view_store result ≡ image.store_at row.now place }
 {
-    if word_or_zero(row, place) == 0 {
-        return StoreBuffer {
-            state: StoreState::Free,
-        };
-    }
-    let pending = Pending {
-        place: word_or_zero(row, place + 1) as usize,
-        cell: word_or_zero(row, place + 2) as usize,
-        operand: operand_at(row, place + 3),
+    let state = match word_at(row, place) {
+        0 => StoreState::Free,
+        _ => StoreState::Live(Pending {
+            place: word_at(row, place + 1) as usize,
+            cell: word_at(row, place + 2) as usize,
+            operand: operand_at(row, place + 3),
+        }),
     };
-    StoreBuffer {
-        state: StoreState::Live(pending),
-    }
+    StoreBuffer { state }
 }
 
 pub fn machine_in(row: &[u64]) -> Machine
     ensures { view result ≡ machine_in row.now }
 {
     Machine {
-        next: word_or_zero(row, NEXT) as usize,
-        registers: [
-            register_at(row, REGISTER_0),
-            register_at(row, REGISTER_1),
-            register_at(row, REGISTER_2),
-            register_at(row, REGISTER_3),
-        ],
-        buffers: [
-            buffer_at(row, BUFFER_0),
-            buffer_at(row, BUFFER_1),
-            buffer_at(row, BUFFER_2),
-            buffer_at(row, BUFFER_3),
-            buffer_at(row, BUFFER_4),
-            buffer_at(row, BUFFER_5),
-        ],
-        stations: [
-            station_at(row, STATION_0),
-            station_at(row, STATION_1),
-            station_at(row, STATION_2),
-            station_at(row, STATION_3),
-            station_at(row, STATION_4),
-        ],
-        stores: [
-            store_at(row, STORE_0),
-            store_at(row, STORE_1),
-            store_at(row, STORE_2),
-        ],
+        next: word_at(row, NEXT) as usize,
+        registers: array::from_fn(|i| register_at(row, REGISTERS + i * REGISTER_WIDTH)),
+        buffers: array::from_fn(|i| buffer_at(row, BUFFERS + i * BUFFER_WIDTH)),
+        stations: array::from_fn(|i| station_at(row, STATIONS + i * STATION_WIDTH)),
+        stores: array::from_fn(|i| store_at(row, STORES + i * STORE_WIDTH)),
     }
 }

@@ -1,27 +1,32 @@
 // A machine written to its row of words, slot by slot (specs/Image.antt).
-ghost use Rattle.std.specs.Prelude.{◌≡◌, ◌<◌, cond, map};
-ghost use Rattle.std.proofs.lemmas.List.Edits.{sets};
+ghost use Rattle.std.specs.Prelude.{◌≡◌, ◌+◌, ◌*◌, ◌≤◌, ℕ, List, cond, length};
 ghost use Rattle.machine_parts.specs.View.{view_operand, view_register, view_buffer, view_station, view_store, view};
-ghost use Rattle.machine_words.specs.Image.{operand_words, operation_word, buffer_words, station_words, store_words, registers_over, buffers_over, stations_over, stores_over, image_over, image_length};
+ghost use Rattle.machine_words.specs.Image.{operand_words, operation_word, buffer_words, station_words, store_words, row_over, image_over, image_length};
 
 use crate::layout::{
-    BUFFER_0, BUFFER_1, BUFFER_2, BUFFER_3, BUFFER_4, BUFFER_5, BUFFER_WIDTH, NEXT, REGISTER_0,
-    REGISTER_1, REGISTER_2, REGISTER_3, REGISTER_WIDTH, STATION_0, STATION_1, STATION_2, STATION_3,
-    STATION_4, STATION_WIDTH, STORE_0, STORE_1, STORE_2, STORE_WIDTH,
+    BUFFER_WIDTH, BUFFERS, NEXT, REGISTER_WIDTH, REGISTERS, STATION_WIDTH, STATIONS, STORE_WIDTH,
+    STORES,
 };
-use crate::row::{put_word, put_words};
+use crate::row::{put, put_words};
 use machine_parts::{
-    Buffer, BufferState, Machine, Operand, Register, Station, StationState, StoreBuffer,
-    StoreState, Tag,
+    Buffer, BufferState, Machine, Operand, Register, Station, StationState, StoreBuffer, StoreState,
 };
 use numbers::Operation;
+
+// A slot, by its words.
+trait Spelled<const N: usize> {
+    ghost spelling: { Self → List ℕ };
+
+    fn words(&self) -> [u64; N]
+        ensures { result ≡ spelling self.now };
+}
 
 fn operand_words(operand: Operand) -> [u64; REGISTER_WIDTH]
     ensures { result ≡ operand_words (view_operand operand) }
 {
     match operand {
         Operand::Number(number) => [0, numbers::pattern_of(number)],
-        Operand::Waits(tag) => [1, tag.0 as u64],
+        Operand::Waits(tag) => [1, u64::from(tag.0)],
     }
 }
 
@@ -36,140 +41,83 @@ fn operation_word(operation: Operation) -> u64
     }
 }
 
-fn buffer_words(buffer: Buffer) -> [u64; BUFFER_WIDTH]
-    ensures { result ≡ buffer_words (view_buffer buffer) }
-{
-    let state = buffer.state;
-    match state {
-        BufferState::Free => [0, 0, 0],
-        BufferState::Waiting(fetch) => [1, fetch.place as u64, fetch.cell as u64],
-        BufferState::Full(fetched) => [
-            2,
-            fetched.place as u64,
-            numbers::pattern_of(fetched.number),
-        ],
+impl Spelled<REGISTER_WIDTH> for Register {
+    ghost spelling = { λ r. operand_words (view_register r) };
+
+    fn words(&self) -> [u64; REGISTER_WIDTH] {
+        operand_words(self.operand)
     }
 }
 
-fn station_words(station: Station) -> [u64; STATION_WIDTH]
-    ensures { result ≡ station_words (view_station station) }
-{
-    let state = station.state;
-    match state {
-        StationState::Free => [0, 0, 0, 0, 0, 0, 0],
-        StationState::Holding(work) => {
-            let sink = work.sink;
-            let source = work.source;
-            let operation = work.operation;
-            let x = operand_words(sink);
-            let y = operand_words(source);
-            let code = operation_word(operation);
-            [1, work.place as u64, code, x[0], x[1], y[0], y[1]]
-        }
-        StationState::Done(worked) => {
-            let pattern = numbers::pattern_of(worked.number);
-            [2, worked.place as u64, pattern, 0, 0, 0, 0]
+impl Spelled<BUFFER_WIDTH> for Buffer {
+    ghost spelling = { λ b. buffer_words (view_buffer b) };
+
+    fn words(&self) -> [u64; BUFFER_WIDTH] {
+        match self.state {
+            BufferState::Free => [0; BUFFER_WIDTH],
+            BufferState::Waiting(fetch) => [1, fetch.place as u64, fetch.cell as u64],
+            BufferState::Full(fetched) => [
+                2,
+                fetched.place as u64,
+                numbers::pattern_of(fetched.number),
+            ],
         }
     }
 }
 
-fn store_words(store: StoreBuffer) -> [u64; STORE_WIDTH]
-    ensures { result ≡ store_words (view_store store) }
-{
-    let state = store.state;
-    match state {
-        StoreState::Free => [0, 0, 0, 0, 0],
-        StoreState::Live(pending) => {
-            let operand = pending.operand;
-            let x = operand_words(operand);
-            [1, pending.place as u64, pending.cell as u64, x[0], x[1]]
+impl Spelled<STATION_WIDTH> for Station {
+    ghost spelling = { λ s. station_words (view_station s) };
+
+    fn words(&self) -> [u64; STATION_WIDTH] {
+        match self.state {
+            StationState::Free => [0; STATION_WIDTH],
+            StationState::Holding(work) => {
+                let code = operation_word(work.operation);
+                let x = operand_words(work.sink);
+                let y = operand_words(work.source);
+                [1, work.place as u64, code, x[0], x[1], y[0], y[1]]
+            }
+            StationState::Done(worked) => {
+                let pattern = numbers::pattern_of(worked.number);
+                [2, worked.place as u64, pattern, 0, 0, 0, 0]
+            }
         }
     }
 }
 
-fn put_register(row: &mut [u64], place: usize, register: Register)
-    requires { place < image_length }
-    ensures { row.new ≡ sets row.old place (operand_words (view_register register)) }
-{
-    let operand = register.operand;
-    let words = operand_words(operand);
-    put_words(row, place, &words);
+impl Spelled<STORE_WIDTH> for StoreBuffer {
+    ghost spelling = { λ t. store_words (view_store t) };
+
+    fn words(&self) -> [u64; STORE_WIDTH] {
+        match self.state {
+            StoreState::Free => [0; STORE_WIDTH],
+            StoreState::Live(pending) => {
+                let x = operand_words(pending.operand);
+                [1, pending.place as u64, pending.cell as u64, x[0], x[1]]
+            }
+        }
+    }
 }
 
-fn put_buffer(row: &mut [u64], place: usize, buffer: Buffer)
-    requires { place < image_length }
-    ensures { row.new ≡ sets row.old place (buffer_words (view_buffer buffer)) }
+fn put_row<T: Spelled<N>, const N: usize>(row: &mut [u64], from: usize, slots: &[T])
+    requires { from + length slots.now * N ≤ image_length }
+    ensures { row.new ≡ row_over T.spelling N from slots.now row.old }
 {
-    let words = buffer_words(buffer);
-    put_words(row, place, &words);
-}
-
-fn put_station(row: &mut [u64], place: usize, station: Station)
-    requires { place < image_length }
-    ensures { row.new ≡ sets row.old place (station_words (view_station station)) }
-{
-    let words = station_words(station);
-    put_words(row, place, &words);
-}
-
-fn put_store(row: &mut [u64], place: usize, store: StoreBuffer)
-    requires { place < image_length }
-    ensures { row.new ≡ sets row.old place (store_words (view_store store)) }
-{
-    let words = store_words(store);
-    put_words(row, place, &words);
-}
-
-fn put_registers(row: &mut [u64], registers: [Register; Register::COUNT])
-    ensures { row.new ≡ registers_over (map view_register registers) row.old }
-{
-    put_register(row, REGISTER_0, registers[0]);
-    put_register(row, REGISTER_1, registers[1]);
-    put_register(row, REGISTER_2, registers[2]);
-    put_register(row, REGISTER_3, registers[3]);
-}
-
-fn put_buffers(row: &mut [u64], buffers: [Buffer; Tag::BUFFERS])
-    ensures { row.new ≡ buffers_over (map view_buffer buffers) row.old }
-{
-    put_buffer(row, BUFFER_0, buffers[0]);
-    put_buffer(row, BUFFER_1, buffers[1]);
-    put_buffer(row, BUFFER_2, buffers[2]);
-    put_buffer(row, BUFFER_3, buffers[3]);
-    put_buffer(row, BUFFER_4, buffers[4]);
-    put_buffer(row, BUFFER_5, buffers[5]);
-}
-
-fn put_stations(row: &mut [u64], stations: [Station; Tag::STATIONS])
-    ensures { row.new ≡ stations_over (map view_station stations) row.old }
-{
-    put_station(row, STATION_0, stations[0]);
-    put_station(row, STATION_1, stations[1]);
-    put_station(row, STATION_2, stations[2]);
-    put_station(row, STATION_3, stations[3]);
-    put_station(row, STATION_4, stations[4]);
-}
-
-fn put_stores(row: &mut [u64], stores: [StoreBuffer; StoreBuffer::COUNT])
-    ensures { row.new ≡ stores_over (map view_store stores) row.old }
-{
-    put_store(row, STORE_0, stores[0]);
-    put_store(row, STORE_1, stores[1]);
-    put_store(row, STORE_2, stores[2]);
+    let mut place = from;
+    for slot in slots {
+        put_words(row, place, &slot.words());
+        place += N;
+    }
 }
 
 pub fn put_machine(row: &mut [u64], m: Machine)
     ensures { row.new ≡ image_over (view m) row.old }
 {
-    let registers = m.registers;
-    let buffers = m.buffers;
-    let stations = m.stations;
-    let stores = m.stores;
-    put_word(row, NEXT, m.next as u64);
-    put_registers(row, registers);
-    put_buffers(row, buffers);
-    put_stations(row, stations);
-    put_stores(row, stores);
+    put(row, NEXT, m.next as u64);
+    put_row(row, REGISTERS, &m.registers);
+    put_row(row, BUFFERS, &m.buffers);
+    put_row(row, STATIONS, &m.stations);
+    put_row(row, STORES, &m.stores);
 }
 
 // A step that was refused leaves the row word for word as found.

@@ -2,14 +2,15 @@
 // A name that begins with f is a list file, read with room for 4,096 words; s: with room for 2; w: words of four bytes, high byte first.
 #![tactic(auto)]
 
-ghost use Rattle.std.specs.Prelude.{◌+◌, ◌≤◌, ◌<◌, length};
-
+use list_file::Written;
 use list_file::reader::read;
 use list_file::writer::write;
+use std::alloc::{AllocError, Allocator};
 use std::io::Read;
 use std::rt::{Files, Runtime};
 use std::{env, fs, io};
-use words::{Areas, LIST_LIMIT, Verdict, check_list, check_list_against};
+use words::refusal::Refused;
+use words::{Areas, LIST_LIMIT, check_list, check_list_against};
 
 // Bytes that are enough for every file, read or written.
 const FILE_ROOM: usize = 65536;
@@ -22,6 +23,7 @@ fn number(out: &impl Print, n: usize) -> io::Result<()> {
     print!(out; "{n}")
 }
 
+// A refusal number, 0 for accepted, and a place.
 fn answer(out: &impl Print, what: &str, refusal: u32, place: usize) -> io::Result<()> {
     print!(out; "{what}{refusal} at {place}")
 }
@@ -38,13 +40,21 @@ fn first_words(out: &impl Print, list: &[u32]) -> io::Result<()> {
     Ok(())
 }
 
-// Whether the writer gives a file back from its words.
-fn written_back(out: &impl Print, file: &[u8], list: &[u32], back: &mut [u8]) -> io::Result<()> {
-    let written = write(list, back);
-    let length = written.length;
-    answer(out, " write ", written.refusal, written.place)?;
+// What the writer says of a list: the file's length, 0 when refused.
+fn write_answer(out: &impl Print, answered: Result<Written, Refused>) -> io::Result<usize> {
+    let (refusal, place, length) = match answered {
+        Ok(written) => (0, written.place, written.length),
+        Err(refused) => (u32::from(refused.refusal), refused.place, 0),
+    };
+    answer(out, " write ", refusal, place)?;
     say(out, " length ")?;
     number(out, length)?;
+    Ok(length)
+}
+
+// Whether the writer gives a file back from its words.
+fn written_back(out: &impl Print, file: &[u8], list: &[u32], back: &mut [u8]) -> io::Result<()> {
+    let length = write_answer(out, write(list, back))?;
     if length <= back.len() && file == &back[..length] {
         say(out, " same")?;
     }
@@ -53,9 +63,11 @@ fn written_back(out: &impl Print, file: &[u8], list: &[u32], back: &mut [u8]) ->
 
 // A list file: what the reader says of it, what the writer makes of its words, and how the buffer begins.
 fn list_file(out: &impl Print, bytes: &[u8], list: &mut [u32], back: &mut [u8]) -> io::Result<()> {
-    let got = read(bytes, list);
-    let count = got.count;
-    answer(out, " read ", got.refusal, got.place)?;
+    let (refusal, place, count) = match read(bytes, list) {
+        Ok(got) => (0, got.place, got.count),
+        Err(refused) => (u32::from(refused.refusal), refused.place, 0),
+    };
+    answer(out, " read ", refusal, place)?;
     say(out, " count ")?;
     number(out, count)?;
     if list.len() < count {
@@ -67,8 +79,11 @@ fn list_file(out: &impl Print, bytes: &[u8], list: &mut [u32], back: &mut [u8]) 
     say(out, "\n")
 }
 
-fn verdict(out: &impl Print, what: &str, v: Verdict) -> io::Result<()> {
-    answer(out, what, v.refusal, v.place)
+fn verdict(out: &impl Print, what: &str, checked: Result<usize, Refused>) -> io::Result<()> {
+    match checked {
+        Ok(place) => answer(out, what, 0, place),
+        Err(refused) => answer(out, what, u32::from(refused.refusal), refused.place),
+    }
 }
 
 // A list of words: alone, against areas of 2 and 3 cells, and written with room for 12 bytes.
@@ -86,10 +101,7 @@ fn list_words(out: &impl Print, list: &[u32]) -> io::Result<()> {
         ),
     )?;
     let mut file = [9u8; 12];
-    let written = write(list, &mut file);
-    answer(out, " write ", written.refusal, written.place)?;
-    say(out, " length ")?;
-    number(out, written.length)?;
+    write_answer(out, write(list, &mut file))?;
     say(out, " bytes")?;
     hex_row(out, &file)?;
     say(out, "\n")
@@ -106,46 +118,29 @@ fn hex_row(out: &impl Print, bytes: &[u8]) -> io::Result<()> {
     Ok(())
 }
 
-fn wide(byte: u8) -> u32 {
-    byte as u32
+// The whole words of the bytes, at most 5,000.
+fn words_of<A: Allocator>(alloc: A, bytes: &[u8]) -> Result<Vec<u32, A>, AllocError> {
+    bytes
+        .chunks_exact(4)
+        .take(5000)
+        .map(|word| word
+            .iter()
+            .fold(0, |above, byte| (above << 8) | u32::from(*byte)))
+        .collect(alloc)
 }
 
-fn hex_word(bytes: &[u8], at: usize) -> u32
-    requires { at + 3 < length bytes.now }
-{
-    (wide(bytes[at]) << 24)
-        | (wide(bytes[at + 1]) << 16)
-        | (wide(bytes[at + 2]) << 8)
-        | wide(bytes[at + 3])
-}
-
-// As many words as the bytes and the list have room for.
-fn words_of(bytes: &[u8], list: &mut [u32]) -> usize
-    ensures { result ≤ length list.old }
-{
-    let whole = bytes.len() / 4;
-    for count in 0..list.len() {
-        if whole <= count {
-            return count;
-        }
-        list[count] = hex_word(bytes, 4 * count);
-    }
-    list.len()
-}
-
-fn one_list(out: &impl Print, bytes: &[u8], kind: u8) -> io::Result<()> {
+fn one_list<R: Print + Alloc>(rt: &R, bytes: &[u8], kind: u8) -> io::Result<()> {
     if kind == b'w' {
-        let mut list = [0u32; 5000];
-        let count = words_of(bytes, &mut list);
-        return list_words(out, &list[..count]);
+        let list = words_of(rt.alloc(), bytes)?;
+        return list_words(rt, list.as_slice());
     }
     let mut back = [0u8; FILE_ROOM];
     if kind == b's' {
         let mut short = [7u32; 2];
-        return list_file(out, bytes, &mut short, &mut back);
+        return list_file(rt, bytes, &mut short, &mut back);
     }
     let mut long = [7u32; LIST_LIMIT];
-    list_file(out, bytes, &mut long, &mut back)
+    list_file(rt, bytes, &mut long, &mut back)
 }
 
 // A file's bytes, no more than there is room for.

@@ -11,7 +11,7 @@ use Rattle.theory_machine.specs.Asked.{written}
 use Rattle.theory_machine.specs.Entries as theory
 use Rattle.theory_run.specs.Run.{ScheduleRun, run}
 use Rattle.machine_parts.specs.View.{view, lent}
-use Rattle.machine_steps.specs.declared.advance.Progress.{Progress}
+use Rattle.machine_steps.specs.Advance.{Progress}
 use Rattle.machine_words.specs.Rows.{number_at}
 use Rattle.machine_words.specs.Image.{machine_in, image_over}
 

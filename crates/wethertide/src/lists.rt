@@ -6,7 +6,7 @@ ghost use Rattle.list_file.specs.Writing.{write_answer, write_bytes};
 ghost use Rattle.wethertide.specs.Entries.{fits, ByRoom, placed_length};
 
 use machine_words::row::put_words;
-use words::refusal;
+use words::refusal::{ACCEPTED, Refusal};
 
 // The count of words read or the length of the file written, and a place.
 const PLACED: usize = 2;
@@ -21,12 +21,18 @@ pub extern "C" fn wethertide_read_list(bytes: &[u8], words: &mut [u32], answer: 
         ((result ≡ 11) × (words.new ≡ words.old) × (answer.new ≡ answer.old)) }
 {
     if answer.len() < PLACED {
-        return refusal::ROOM;
+        return u32::from(Refusal::Room);
     }
-    let read = list_file::reader::read(bytes, words);
-    let told: [u64; 2] = [read.count as u64, read.place as u64];
-    put_words(answer, 0, &told);
-    read.refusal
+    match list_file::reader::read(bytes, words) {
+        Ok(read) => {
+            put_words(answer, 0, &[read.count as u64, read.place as u64]);
+            ACCEPTED
+        }
+        Err(refused) => {
+            put_words(answer, 0, &[0, refused.place as u64]);
+            u32::from(refused.refusal)
+        }
+    }
 }
 
 // Answers the refusal; the row of answers takes the length and the place.
@@ -39,10 +45,16 @@ pub extern "C" fn wethertide_write_list(words: &[u32], bytes: &mut [u8], answer:
         ((result ≡ 11) × (bytes.new ≡ bytes.old) × (answer.new ≡ answer.old)) }
 {
     if answer.len() < PLACED {
-        return refusal::ROOM;
+        return u32::from(Refusal::Room);
     }
-    let written = list_file::writer::write(words, bytes);
-    let told: [u64; 2] = [written.length as u64, written.place as u64];
-    put_words(answer, 0, &told);
-    written.refusal
+    match list_file::writer::write(words, bytes) {
+        Ok(written) => {
+            put_words(answer, 0, &[written.length as u64, written.place as u64]);
+            ACCEPTED
+        }
+        Err(refused) => {
+            put_words(answer, 0, &[0, refused.place as u64]);
+            u32::from(refused.refusal)
+        }
+    }
 }

@@ -11,13 +11,14 @@ ghost use Rattle.machine_steps.specs.Lowest.{view_lowest};
 ghost use Rattle.machine_words.specs.Image.{image_length, machine_in, image_over};
 ghost use Rattle.wethertide.specs.Entries.{fits, ByRoom, released_length, left_length, lowest_length, record_words, released_words, lowest_words, starts_in, StepWords, step_in, alone_in};
 
-use machine_parts::{Record, Register, Released};
-use machine_steps::lowest::Lowest;
+use machine_parts::{Record, Register};
+use machine_steps::lowest::lowest_step;
 use machine_words::image::machine_in;
 use machine_words::layout::WORDS;
-use machine_words::row::{number_or_zero, put_number, put_words};
+use machine_words::row::{number_or_zero, put_words};
 use machine_words::spelling::put_machine;
-use words::refusal;
+use std::array;
+use words::refusal::{Refusal, number_of};
 
 // The words of a record, and of each row: what was released, the steps left, the lowest step.
 pub(crate) const RECORD_WORDS: usize = 3;
@@ -38,36 +39,31 @@ pub(crate) fn record_words(made: Record) -> [u64; RECORD_WORDS]
     ]
 }
 
-fn released_words(released: Released) -> [u64; RELEASED]
+fn released_words(released: Option<Record>) -> [u64; RELEASED]
     ensures { result ≡ released_words (view_released released) }
 {
     match released {
-        Released::Nothing => [0, 0, 0, 0],
-        Released::One(made) => {
+        None => [0; RELEASED],
+        Some(made) => {
             let words = record_words(made);
             [1, words[0], words[1], words[2]]
         }
     }
 }
 
-fn lowest_words(lowest: Lowest) -> [u64; LOWEST]
+fn lowest_words(lowest: Option<u32>) -> [u64; LOWEST]
     ensures { result ≡ lowest_words (view_lowest lowest) }
 {
     match lowest {
-        Lowest::Nothing => [0, 0],
-        Lowest::Code(code) => [1, code as u64],
+        None => [0; LOWEST],
+        Some(code) => [1, u64::from(code)],
     }
 }
 
 fn starts_in(row: &[f64]) -> [f64; Register::COUNT]
     ensures { result ≡ starts_in row.now }
 {
-    [
-        number_or_zero(row, 0),
-        number_or_zero(row, 1),
-        number_or_zero(row, 2),
-        number_or_zero(row, 3),
-    ]
+    array::from_fn(|i| number_or_zero(row, i))
 }
 
 // Answers the refusal; the row of words takes the machine.
@@ -85,16 +81,14 @@ pub extern "C" fn wethertide_fresh(
         ((result ≡ 11) × (machine.new ≡ machine.old)) }
 {
     if starts.len() < Register::COUNT {
-        return refusal::ROOM;
+        return u32::from(Refusal::Room);
     }
     if machine.len() < WORDS {
-        return refusal::ROOM;
+        return u32::from(Refusal::Room);
     }
-    let numbers = starts_in(starts);
-    let begun = machine_parts::start::fresh(words, operands, results, numbers);
-    let m = begun.machine;
-    put_machine(machine, m);
-    begun.refusal
+    let begun = machine_parts::start::fresh(words, operands, results, starts_in(starts));
+    put_machine(machine, begun.machine);
+    number_of(&begun.outcome)
 }
 
 // Answers the refusal; of a step that was taken the row of words takes the machine, the released row whether a record was released, and the record.
@@ -113,22 +107,17 @@ pub extern "C" fn wethertide_step(
         ((result ≡ 11) × (machine.new ≡ machine.old) × (results.new ≡ results.old) × (released.new ≡ released.old)) }
 {
     if machine.len() < WORDS {
-        return refusal::ROOM;
+        return u32::from(Refusal::Room);
     }
     if released.len() < RELEASED {
-        return refusal::ROOM;
+        return u32::from(Refusal::Room);
     }
-    let m = machine_in(machine);
-    let stepped = machine_steps::step::step(m, words, operands, results, code);
-    if stepped.refusal != refusal::ACCEPTED {
-        return stepped.refusal;
+    let stepped = machine_steps::step::step(machine_in(machine), words, operands, results, code);
+    if let Ok(made) = stepped.outcome {
+        put_machine(machine, stepped.machine);
+        put_words(released, 0, &released_words(made));
     }
-    let after = stepped.machine;
-    let made = stepped.released;
-    put_machine(machine, after);
-    let told = released_words(made);
-    put_words(released, 0, &told);
-    refusal::ACCEPTED
+    number_of(&stepped.outcome)
 }
 
 #[unsafe(no_mangle)]
@@ -143,8 +132,7 @@ pub extern "C" fn wethertide_good_order(
     if machine.len() < WORDS {
         return false;
     }
-    let m = machine_in(machine);
-    good_order::good_order(m, words, operands, results)
+    good_order::good_order(machine_in(machine), words, operands, results)
 }
 
 #[unsafe(no_mangle)]
@@ -154,8 +142,7 @@ pub extern "C" fn wethertide_drained(machine: &[u64], words: &[u32]) -> bool
     if machine.len() < WORDS {
         return false;
     }
-    let m = machine_in(machine);
-    steps_left::drained(m, words)
+    steps_left::drained(machine_in(machine), words)
 }
 
 // Answers the refusal; the row of answers takes the steps left.
@@ -173,16 +160,14 @@ pub extern "C" fn wethertide_steps_left(
         ((result ≡ 11) × (answer.new ≡ answer.old)) }
 {
     if machine.len() < WORDS {
-        return refusal::ROOM;
+        return u32::from(Refusal::Room);
     }
     if answer.len() < LEFT {
-        return refusal::ROOM;
+        return u32::from(Refusal::Room);
     }
-    let m = machine_in(machine);
-    let left = steps_left::steps_left(m, words, operands, results);
-    let told: [u64; 1] = [left.left as u64];
-    put_words(answer, 0, &told);
-    left.refusal
+    let left = steps_left::steps_left(machine_in(machine), words, operands, results);
+    put_words(answer, 0, &[left.unwrap_or(0) as u64]);
+    number_of(&left)
 }
 
 // Answers the refusal; the row of answers takes whether there is a lowest step, and its code.
@@ -200,17 +185,14 @@ pub extern "C" fn wethertide_lowest_step(
         ((result ≡ 11) × (answer.new ≡ answer.old)) }
 {
     if machine.len() < WORDS {
-        return refusal::ROOM;
+        return u32::from(Refusal::Room);
     }
     if answer.len() < LOWEST {
-        return refusal::ROOM;
+        return u32::from(Refusal::Room);
     }
-    let m = machine_in(machine);
-    let lowest = machine_steps::lowest::lowest_step(m, words, operands, results);
-    let code = lowest.code;
-    let told = lowest_words(code);
-    put_words(answer, 0, &told);
-    lowest.refusal
+    let lowest = lowest_step(machine_in(machine), words, operands, results);
+    put_words(answer, 0, &lowest_words(lowest.unwrap_or(None)));
+    number_of(&lowest)
 }
 
 // Answers the refusal; the registers are the start numbers, and take those that the run leaves.
@@ -228,14 +210,10 @@ pub extern "C" fn wethertide_one_at_a_time(
         ((result ≡ 11) × (results.new ≡ results.old) × (registers.new ≡ registers.old)) }
 {
     if registers.len() < Register::COUNT {
-        return refusal::ROOM;
+        return u32::from(Refusal::Room);
     }
     let starts = starts_in(registers);
     let ran = one_at_a_time::one_at_a_time(words, operands, results, starts);
-    let ends = ran.registers;
-    put_number(registers, 0, ends[0]);
-    put_number(registers, 1, ends[1]);
-    put_number(registers, 2, ends[2]);
-    put_number(registers, 3, ends[3]);
-    ran.refusal
+    registers[..Register::COUNT].copy_from_slice(&ran.registers);
+    number_of(&ran.outcome)
 }

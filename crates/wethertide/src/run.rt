@@ -3,33 +3,28 @@ ghost use Rattle.std.specs.Prelude.{◌≡◌, ◌&&◌};
 ghost use Rattle.machine_parts.specs.View.{view};
 ghost use Rattle.machine_words.specs.Image.{image_length, machine_in};
 ghost use Rattle.wethertide.specs.Entries.{fits, ByRoom, ran_length, RunWords, RunLogged, run_in};
-ghost use Rattle.wethertide.specs.Logging.{logged_stop};
+ghost use Rattle.machine_steps.specs.Advance.{view_progress};
+ghost use Rattle.wethertide.specs.Logging.{logged_entry};
 
 use crate::machines::{RECORD_WORDS, record_words};
 use machine_parts::Machine;
-use machine_steps::advance::{Progress, Stop, advance, begun};
+use machine_steps::advance::{Entry, Progress, begun};
 use machine_words::image::machine_in;
 use machine_words::layout::WORDS;
 use machine_words::row::put_words;
 use machine_words::spelling::put_taken;
-use words::refusal;
+use words::refusal::{Refusal, number_of};
 
 // Steps done, byte place and records.
 const RAN: usize = 3;
 
-// The record of a stop at a release, where the log has room.
-fn put_stop(log: &mut [u64], stop: Stop)
-    ensures { log.new ≡ logged_stop log.old stop }
+// A record goes to its index, where the log has room.
+fn put_entry(log: &mut [u64], entry: Entry)
+    ensures { log.new ≡ logged_entry log.old entry }
 {
-    if !stop.released {
-        return;
+    if entry.index < log.len() / RECORD_WORDS {
+        put_words(log, entry.index * RECORD_WORDS, &record_words(entry.made));
     }
-    if log.len() / RECORD_WORDS <= stop.index {
-        return;
-    }
-    let made = stop.made;
-    let words = record_words(made);
-    put_words(log, stop.index * RECORD_WORDS, &words);
 }
 
 fn run_by_value(
@@ -40,16 +35,12 @@ fn run_by_value(
     schedule: &[u8],
     log: &mut [u64],
 ) -> Progress
-    ensures { RunLogged (run_in words.now operands.now (view m) results.old schedule.now log.old) log.old result results.new log.new }
+    ensures { RunLogged (run_in words.now operands.now (view m) results.old schedule.now log.old) log.old (view_progress result) results.new log.new }
 {
     let room = log.len() / RECORD_WORDS;
     let mut run = begun(m, words, operands, results.len());
-    let mut going = true;
-    while going {
-        let stop = advance(run, words, operands, results, schedule, room);
-        put_stop(log, stop);
-        run = stop.progress;
-        going = stop.released;
+    while let Some(entry) = run.advance(words, operands, results, schedule, room) {
+        put_entry(log, entry);
     }
     run
 }
@@ -71,16 +62,15 @@ pub extern "C" fn wethertide_run(
         ((result ≡ 11) × (machine.new ≡ machine.old) × (results.new ≡ results.old) × (log.new ≡ log.old) × (answer.new ≡ answer.old)) }
 {
     if machine.len() < WORDS {
-        return refusal::ROOM;
+        return u32::from(Refusal::Room);
     }
     if answer.len() < RAN {
-        return refusal::ROOM;
+        return u32::from(Refusal::Room);
     }
     let m = machine_in(machine);
     let run = run_by_value(m, words, operands, results, schedule, log);
-    let after = run.machine;
-    put_taken(machine, after, run.steps != 0);
-    let told: [u64; RAN] = [run.steps as u64, run.place as u64, run.records as u64];
+    put_taken(machine, run.machine, run.steps != 0);
+    let told = [run.steps as u64, run.place as u64, run.records as u64];
     put_words(answer, 0, &told);
-    run.refusal
+    number_of(&run.outcome)
 }

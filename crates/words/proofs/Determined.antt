@@ -1,4 +1,6 @@
 -- The contract of each public function determines its answer.
+use denote.RattleType.{RattleType}
+use denote.Param.Laws.{Laws}
 use Rattle.numbers.proofs.Determined.{Determines, one_answer}
 use Rattle.words.proofs.Refusals.{answer_exact, verdict_exact}
 use Rattle.words.proofs.check_list.Kinds as check-list-kinds
@@ -7,6 +9,8 @@ use Rattle.words.proofs.check_list_against.Kinds as check-list-against-kinds
 use Rattle.words.proofs.check_list_against.Reads as check-list-against-reads
 use Rattle.words.proofs.Areas.of.Kinds as of-kinds
 use Rattle.words.proofs.Areas.of.Reads as of-reads
+use Rattle.words.proofs.refusal.number_of.Kinds as number-of-kinds
+use Rattle.words.proofs.refusal.number_of.Reads as number-of-reads
 use Rattle.words.proofs.refusal.placed.Kinds as placed-kinds
 use Rattle.words.proofs.refusal.placed.Reads as placed-reads
 use Rattle.words.proofs.refusal.Refusal.at.Kinds as at-kinds
@@ -66,3 +70,7 @@ placed_determined κs a x y s t = one_answer
 
 pub areas_of_determined : Determines 2 of-kinds.ps of-kinds.r of-reads.Post
 areas_of_determined κs a x y s t = one_answer
+
+-- over answers of every type
+pub number_of_determined : (A : RattleType) (laws : Laws A) → Determines 2 (number-of-kinds.ps A laws) (number-of-kinds.r A laws) (number-of-reads.Post A laws)
+number_of_determined A laws κs a x y s t = one_answer

@@ -4,8 +4,10 @@ use mathlib.Core.Bool.{Bool, true, false, true≢false}
 use Prim.Native.Nat.{ℕ, suc}
 use native.Mathlib.Omega.{arith}
 use mathlib.Core.List.{[], ◌∷◌}
+use lib.Dec.{eqb}
 use lib.ListN.{get_or}
-use Rattle.std.specs.Prelude.{Result, Ok, Err, is_err, IsErrAnd}
+use borrow.Author.Tests.{ne_eqb}
+use Rattle.std.specs.Prelude.{Result, Ok, Err, is_ok, is_err, IsErrAnd}
 use Rattle.words.specs.declared.refusal.Refusal.{Refusal}
 use Rattle.words.specs.declared.refusal.Refusal.TheVariants.{List, Operation, Register, Cell, Code, Order, NotNow, Cut, Number, Left, Room}
 use Rattle.words.specs.declared.refusal.Refused.{Refused}
@@ -81,3 +83,7 @@ placed_err (Err r) place q = let k : _ ≡ record { refusal = r; place = place }
 pub placed_ok : (a : Result Unit Refusal) (place : ℕ) {u : Unit} → Ok u ≡ placed a place → 0 ≡ answer_number a
 placed_ok (Ok u) place q = refl
 placed_ok (Err r) place q = cc
+
+pub ok_is : {A : Type 0} (a : Result A Refusal) → is_ok a ≡ eqb (answer_number a) 0
+ok_is (Ok x) = refl
+ok_is (Err r) = sym (ne_eqb (number r) 0 (number_real r))

@@ -85,12 +85,15 @@ pub fn placed(answer: Result<(), Refusal>, place: usize) -> Result<(), Refused>
     }
 }
 
-// 0 means accepted.
+// "0 means accepted."
+pub const ACCEPTED: u32 = 0;
+
+// The number of an answer.
 pub fn number_of<A>(answer: &Result<A, Refusal>) -> u32
     ensures { result ≡ answer_number answer.now }
 {
     match answer {
-        Ok(_) => 0,
+        Ok(_) => ACCEPTED,
         Err(refusal) => u32::from(*refusal),
     }
 }

@@ -1,4 +1,3 @@
-use Prim.Native.Nat.{◌-◌}
 use Rattle.theory_machine.specs.Codes.{code_limit}
 use Rattle.machine_steps.proofs.Permits.{permits}
 use Rattle.machine_steps.proofs.First.{Searching}
@@ -6,6 +5,3 @@ use Rattle.machine_steps.proofs.lowest.lowest_permitted.Given as goal
 
 abbrev pub invariant-loop-code : goal.invariant-loop-code
 invariant-loop-code l = Searching (permits l.m l.words l.operands l.results) code_limit l.code
-
-abbrev pub decreases-loop-code : goal.decreases-loop-code
-decreases-loop-code l = code_limit - l.code

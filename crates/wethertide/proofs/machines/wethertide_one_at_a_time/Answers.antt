@@ -18,6 +18,6 @@ returns c =
     is-roomy (le-leb _ _ c.if-registers-lt-COUNT.false) (
       ap (λ (x : OneAtATime Float). x.refusal) e,
       ap (λ (x : OneAtATime Float). x.run.cells) e,
-      rw (c.put_number-4.ensures, c.put_number-3.ensures, c.put_number-2.ensures, c.put_number.ensures)
+      rw (c.put-4.ensures, c.put-3.ensures, c.put-2.ensures, c.put.ensures)
           (carried (λ (x : OneAtATime Float) row. sets row 0 x.run.registers) (ap (sets _ 0) (four nan c.one_at_a_time-ran.result.registers (search (rules, c.one_at_a_time-ran.type_inv)))) e),
     )
