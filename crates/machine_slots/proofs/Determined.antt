@@ -6,7 +6,7 @@ use Rattle.theory_machine.specs.Codes as codes
 use Rattle.machine_parts.proofs.Exact.{buffer_exact, station_exact, store_exact}
 use Rattle.machine_slots.specs.declared.code.Step.{Step}
 use Rattle.machine_slots.specs.declared.code.Step.TheVariants.{Issue, Arrival, Completion, BufferGrant, StationGrant, Release}
-use Rattle.machine_slots.specs.Slots.{view_step}
+use Rattle.machine_slots.specs.Slots.{view_read}
 use Rattle.machine_slots.proofs.code.step_of.Kinds as step-of-kinds
 use Rattle.machine_slots.proofs.code.step_of.Reads as step-of-reads
 use Rattle.machine_slots.proofs.made.fetching.Kinds as fetching-kinds
@@ -26,7 +26,7 @@ step_back (codes.buffer_grant i) = Some (BufferGrant i)
 step_back (codes.station_grant i) = Some (StationGrant i)
 step_back (codes.release i) = Some (Release i)
 
-step_back_lem : (x : Option Step) → step_back (view_step x) ≡ x
+step_back_lem : (x : Option Step) → step_back (view_read x) ≡ x
 step_back_lem None = refl
 step_back_lem (Some Issue) = refl
 step_back_lem (Some (Arrival i)) = refl
@@ -35,7 +35,7 @@ step_back_lem (Some (BufferGrant i)) = refl
 step_back_lem (Some (StationGrant i)) = refl
 step_back_lem (Some (Release i)) = refl
 
-step_exact : (x y : Option Step) → view_step x ≡ view_step y → x ≡ y
+step_exact : (x y : Option Step) → view_read x ≡ view_read y → x ≡ y
 step_exact x y e = sym (step_back_lem x) ∙ ap step_back e ∙ step_back_lem y
 
 pub step_of_determined : Determines 0 step-of-kinds.ps step-of-kinds.r step-of-reads.Post

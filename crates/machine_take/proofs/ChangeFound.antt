@@ -18,7 +18,7 @@ use Rattle.machine_parts.specs.declared.StationState.TheVariants as station
 use Rattle.machine_parts.specs.declared.StoreState.TheVariants as store
 use Rattle.machine_slots.specs.declared.code.Step.{Step}
 use Rattle.machine_slots.specs.declared.code.Step.TheVariants as step
-use Rattle.machine_slots.specs.Slots.{view_known, ReadsAs}
+use Rattle.machine_slots.specs.Slots.{view_step, ReadsAs}
 use Rattle.machine_slots.proofs.Codes.{performed}
 use Rattle.machine_take.specs.declared.issue.Issue.{Issue}
 use Rattle.machine_take.specs.declared.change.Change.{Change}
@@ -30,7 +30,7 @@ module _ {L : Lent Float} {code : ℕ} where
   no_step read m = record { is = sym (performed read L (view m)); within = tt }
 
   module _ {s r : Step} (read : ReadsAs code (Some r)) (e : r ≡ s) (m : Machine) where
-    pub found : {c : Result Change Refusal} {f : theory.Machine Float → Answer Float} → Makes c f → f (view m) ≡ perform_step binary64 L (view m) (view_known s)
+    pub found : {c : Result Change Refusal} {f : theory.Machine Float → Answer Float} → Makes c f → f (view m) ≡ perform_step binary64 L (view m) (view_step s)
         → Changes L m code c
     found h q = record { is = h.is (view m) ∙ q ∙ rw e at (sym (performed read L (view m))); within = h.within m.next }
 

@@ -1,7 +1,8 @@
 use Rattle.std.proofs.lemmas.Result.{err_from_is_err_and}
 use Rattle.theory_machine.specs.Binary64.{binary64}
 use Rattle.theory_machine.specs.Steps.{arrive, complete, grant_buffer, grant_station, release_store}
-use Rattle.machine_parts.specs.View.{view, lent_with}
+use Rattle.machine_parts.specs.View.{view}
+use Rattle.machine_take.specs.Changes.{view_lent}
 use Rattle.machine_take.proofs.ChangeFound.{no_step, found, issue_refused, issue_found, buffer_seen, station_seen, store_seen}
 use Rattle.machine_take.proofs.change.change_of.Goals as goal
 
@@ -19,12 +20,12 @@ returns-in_ok-next_issue-in-Issue c = issue_found c.in-Some.ensures c.in-Issue.i
 pub returns-in-Arrival : goal.returns-in-Arrival
 returns-in-Arrival c =
     let m = c.args.m.now in
-    found c.in-Some.ensures c.in-Arrival.is m c.arrival.ensures (buffer_seen m c.in-Arrival.b (arrive binary64 (lent_with c.args.words.now c.args.operands.now c.args.results) (view m) c.in-Arrival.b))
+    found c.in-Some.ensures c.in-Arrival.is m c.arrival.ensures (buffer_seen m c.in-Arrival.b (arrive binary64 (view_lent c.args.lent) (view m) c.in-Arrival.b))
 
 pub returns-in-Completion : goal.returns-in-Completion
 returns-in-Completion c =
     let m = c.args.m.now in
-    found c.in-Some.ensures c.in-Completion.is m c.completion.ensures (station_seen m c.in-Completion.u (complete binary64 (lent_with c.args.words.now c.args.operands.now c.args.results) (view m) c.in-Completion.u))
+    found c.in-Some.ensures c.in-Completion.is m c.completion.ensures (station_seen m c.in-Completion.u (complete binary64 (view_lent c.args.lent) (view m) c.in-Completion.u))
 
 pub returns-in-BufferGrant : goal.returns-in-BufferGrant
 returns-in-BufferGrant c =
