@@ -53,7 +53,7 @@ fn apply_issue(m: &mut Machine, issue: Issue)
     }
 }
 
-// And what is released.
+// The change, stored; the answer is what it releases, if anything.
 #[tactic(auto, using(crate::proofs::Stored::stored))]
 pub(crate) fn apply(m: &mut Machine, change: Change) -> Option<Record>
     requires { Within m.old.next change }

@@ -117,6 +117,7 @@ fn release(t: usize, old: StoreBuffer) -> Result<Change, Refusal>
     ))
 }
 
+#[tactic(auto, using(crate::proofs::ChangeFound::no_slot_found))]
 pub(crate) fn change_of(m: &Machine, code: u32, lent: Lent) -> Result<Change, Refusal>
     ensures { Changes (view_lent lent.entry) m.now code result }
 {

@@ -34,7 +34,7 @@ fn take_code(m: &mut Machine, code: u32, lent: Lent, room: bool) -> Result<Optio
     }
 }
 
-// Steps from where it stands.
+// Code after code, up to and including the next release.
 fn until_release(
     taken: &mut Taken,
     lent: Lent,
