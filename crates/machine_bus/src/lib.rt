@@ -6,9 +6,7 @@ ghost use Rattle.std.specs.Float.Ieee.{Float};
 ghost use Rattle.machine_bus.specs.Bus.{operand_waiting, register_waiting, station_waiting, store_waiting, given_operand, given_register, given_station, given_store};
 ghost use Rattle.machine_bus.specs.Laws.{operand_kept, register_kept, station_kept, store_kept};
 
-use machine_parts::{
-    Operand, Pending, Register, Station, StationState, StoreBuffer, StoreState, Tag, Work,
-};
+use machine_parts::{Operand, Pending, Register, Station, StationState, StoreBuffer, Tag, Work};
 
 // What may wait for a tag, and takes the number of its grant.
 pub trait Waits {
@@ -103,17 +101,17 @@ impl Waits for StoreBuffer {
     ghost keeps = { store_kept };
 
     fn waits(&self, tag: Tag) -> bool {
-        match self.state {
-            StoreState::Free => false,
-            StoreState::Live(pending) => pending.operand.waits(tag),
+        match self.pending {
+            None => false,
+            Some(pending) => pending.operand.waits(tag),
         }
     }
 
     fn given(&self, tag: Tag, number: f64) -> StoreBuffer {
-        match self.state {
-            StoreState::Free => *self,
-            StoreState::Live(pending) => StoreBuffer {
-                state: StoreState::Live(Pending {
+        match self.pending {
+            None => *self,
+            Some(pending) => StoreBuffer {
+                pending: Some(Pending {
                     operand: pending.operand.given(tag, number),
                     ..pending
                 }),

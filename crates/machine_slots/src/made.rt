@@ -4,8 +4,8 @@ ghost use Rattle.theory_machine.specs.Machine.{tag, free_buffer, waiting, full, 
 ghost use Rattle.machine_parts.specs.View.{view_register, view_buffer, view_station, view_store};
 
 use machine_parts::{
-    Buffer, BufferState, Fetch, Fetched, Operand, Pending, Register, Station, StationState,
-    StoreBuffer, StoreState, Tag, Work, Worked,
+    Buffer, BufferState, Fetch, Operand, Pending, Ready, Register, Station, StationState,
+    StoreBuffer, Tag, Work,
 };
 use numbers::Operation;
 
@@ -33,7 +33,7 @@ pub fn fetching(place: usize, cell: usize) -> Buffer
     }
 }
 
-pub fn full(fetched: Fetched) -> Buffer
+pub fn full(fetched: Ready) -> Buffer
     ensures { view_buffer result ≡ full fetched.place fetched.number }
 {
     Buffer {
@@ -62,7 +62,7 @@ pub fn holding(place: usize, operation: Operation, sink: Register, source: Regis
     }
 }
 
-pub fn done(worked: Worked) -> Station
+pub fn done(worked: Ready) -> Station
     ensures { view_station result ≡ done worked.place worked.number }
 {
     Station {
@@ -73,16 +73,14 @@ pub fn done(worked: Worked) -> Station
 pub fn free_store() -> StoreBuffer
     ensures { view_store result ≡ free_store }
 {
-    StoreBuffer {
-        state: StoreState::Free,
-    }
+    StoreBuffer { pending: None }
 }
 
 pub fn pending(place: usize, cell: usize, operand: Register) -> StoreBuffer
     ensures { view_store result ≡ live place cell (view_register operand) }
 {
     StoreBuffer {
-        state: StoreState::Live(Pending {
+        pending: Some(Pending {
             place,
             cell,
             operand: operand.operand,

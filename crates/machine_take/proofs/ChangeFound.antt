@@ -19,7 +19,6 @@ use Rattle.machine_parts.specs.declared.Station.{Station}
 use Rattle.machine_parts.specs.declared.StoreBuffer.{StoreBuffer}
 use Rattle.machine_parts.specs.declared.BufferState.TheVariants as buffer
 use Rattle.machine_parts.specs.declared.StationState.TheVariants as station
-use Rattle.machine_parts.specs.declared.StoreState.TheVariants as store
 use Rattle.machine_slots.specs.declared.code.Step.{Step}
 use Rattle.machine_slots.specs.declared.code.Step.TheVariants.{Issue, Arrival, Completion, BufferGrant, StationGrant, Release}
 use Rattle.machine_slots.specs.Slots.{view_step, ReadsAs}
@@ -36,7 +35,7 @@ abbrev free_station : Station
 free_station = record { state = station.Free }
 
 abbrev free_store : StoreBuffer
-free_store = record { state = store.Free }
+free_store = record { pending = None }
 
 module _ {L : Lent Float} {m : Machine} {code : ℕ} where
   pub no_step : ReadsAs code None → Changes L m code (Err Code)

@@ -8,8 +8,7 @@ ghost use Rattle.machine_take.specs.Changes.{view_lent, Makes, Changes};
 
 use crate::issue::{Issue, next_issue};
 use machine_parts::{
-    Buffer, BufferState, Fetched, Machine, Operand, Record, Station, StationState, StoreBuffer,
-    StoreState, Worked,
+    Buffer, BufferState, Machine, Operand, Ready, Record, Station, StationState, StoreBuffer,
 };
 use machine_slots::code::{Step, step_of};
 use words::refusal::Refusal;
@@ -25,8 +24,8 @@ pub(crate) struct Lent<'a> {
 #[derive(Clone, Copy)]
 pub(crate) enum Change {
     Issues(Issue),
-    Arrives(usize, Fetched),
-    Completes(usize, Worked),
+    Arrives(usize, Ready),
+    Completes(usize, Ready),
     // the giver's number
     BufferGives(usize, f64),
     StationGives(usize, f64),
@@ -50,7 +49,7 @@ fn arrival(b: usize, old: Buffer, operands: &[f64]) -> Result<Change, Refusal>
     let number = operand_cell(operands, fetch.cell);
     Ok(Change::Arrives(
         b,
-        Fetched {
+        Ready {
             place: fetch.place,
             number,
         },
@@ -70,7 +69,7 @@ fn completion(u: usize, old: Station) -> Result<Change, Refusal>
     let number = numbers::computed(work.operation, sink, source);
     Ok(Change::Completes(
         u,
-        Worked {
+        Ready {
             place: work.place,
             number,
         },
@@ -101,7 +100,7 @@ fn release(t: usize, old: StoreBuffer) -> Result<Change, Refusal>
     requires { t < store_count }
     ensures { Makes result (λ m. release_store m t (view_store old)) }
 {
-    let StoreState::Live(pending) = old.state else {
+    let Some(pending) = old.pending else {
         return Err(Refusal::NotNow);
     };
     let Operand::Number(number) = pending.operand else {

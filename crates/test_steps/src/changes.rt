@@ -1,8 +1,8 @@
 // Changes that a session makes to its fresh machine: any slot, damaged as it likes.
 use crate::scan::{quarters, scan_number};
 use machine_parts::{
-    Buffer, BufferState, Fetch, Fetched, Machine, Operand, Pending, Register, Station,
-    StationState, StoreBuffer, StoreState, Tag, Work, Worked,
+    Buffer, BufferState, Fetch, Machine, Operand, Pending, Ready, Register, Station, StationState,
+    StoreBuffer, Tag, Work,
 };
 use numbers::Operation;
 
@@ -47,11 +47,11 @@ fn buffer_of(kind: usize, place: usize, cell: usize, number: f64) -> Buffer {
         };
     }
     Buffer {
-        state: BufferState::Full(Fetched { place, number }),
+        state: BufferState::Full(Ready { place, number }),
     }
 }
 
-fn station_of(kind: usize, worked: Worked, work: Work) -> Station {
+fn station_of(kind: usize, worked: Ready, work: Work) -> Station {
     if kind == 4 {
         return Station {
             state: StationState::Holding(work),
@@ -93,7 +93,7 @@ fn changed(m: Machine, nine: [usize; 9]) -> Machine {
             let operation = operation_of(nine[4]);
             n.stations[index] = station_of(
                 kind,
-                Worked { place, number },
+                Ready { place, number },
                 Work {
                     place,
                     operation,
@@ -106,7 +106,7 @@ fn changed(m: Machine, nine: [usize; 9]) -> Machine {
     }
     if index < StoreBuffer::COUNT {
         n.stores[index] = StoreBuffer {
-            state: StoreState::Live(Pending {
+            pending: Some(Pending {
                 place,
                 cell,
                 operand: sink,
