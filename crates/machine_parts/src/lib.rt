@@ -39,7 +39,8 @@ impl Tag {
     // The first number above every tag.
     pub const LIMIT: usize = Self::LAST_STATION as usize + 1;
 
-    // The tag of a buffer, by its index from 0; of no buffer, the unused one.
+    // The tag of a buffer, by its index from 0; of no buffer, the unused one. (A function over both would take the first tag too, and ask that the sum
+    // is below 256; `of_buffer` and `of_station` ask nothing.)
     pub fn of_buffer(i: usize) -> Tag
         ensures { result.0 ≡ tag_of_buffer i }
     {

@@ -52,6 +52,7 @@ pub const CODES: [CodeRow; ROWS] = [
     },
 ];
 
+// Each end of a row by name, since a pattern of a `match` is a constant.
 const ISSUE: u32 = CODES[0].base + CODES[0].first;
 
 const FIRST_ARRIVAL: u32 = CODES[1].base + CODES[1].first;

@@ -76,6 +76,7 @@ fn completion(u: usize, old: Station) -> Result<Change, Refusal>
     ))
 }
 
+// (Grants of a buffer and of a station differ in pattern and answer: one function over both would take each as a closure.)
 fn buffer_grant(b: usize, old: Buffer) -> Result<Change, Refusal>
     requires { b < buffer_count }
     ensures { Makes result (λ m. grant_buffer m b (view_buffer old)) }

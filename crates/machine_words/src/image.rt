@@ -23,6 +23,7 @@ fn word_at(row: &[u64], place: usize) -> u64
     value_or(row, place, 0)
 }
 
+// Each slot begins where it has room in the row: no sum of a place is too large. (A type of such places would say the room in its name, for each width.)
 fn operand_at(row: &[u64], place: usize) -> Operand
     requires { place + 2 ≤ image_length }
     ensures { view_operand result ≡ image.operand_at row.now place }
@@ -34,6 +35,7 @@ fn operand_at(row: &[u64], place: usize) -> Operand
     }
 }
 
+// The numbers of the C interface. (No `From`: type and number are both of other crates.)
 fn operation_at(row: &[u64], place: usize) -> Operation
     ensures { result ≡ image.operation_at row.now place }
 {

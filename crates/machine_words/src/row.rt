@@ -9,6 +9,7 @@ pub(crate) fn value_or<T: Copy>(row: &[T], place: usize, absent: T) -> T
     row.get(place).copied().unwrap_or(absent)
 }
 
+// (Kept beside `value_or`: `number_or_zero_determined` speaks of it.)
 pub fn number_or_zero(row: &[f64], place: usize) -> f64
     ensures { result ≡ number_at row.now place }
 {
@@ -23,6 +24,7 @@ pub(crate) fn put<T: Copy>(row: &mut [T], place: usize, value: T)
     }
 }
 
+// (Kept beside `put`: `put_number_determined` speaks of it.)
 pub fn put_number(row: &mut [f64], place: usize, number: f64)
     ensures { row.new ≡ set row.old place number }
 {

@@ -30,6 +30,7 @@ fn operand_words(operand: Operand) -> [u64; REGISTER_WIDTH]
     }
 }
 
+// The numbers of the C interface, as `operation_at` reads them.
 fn operation_word(operation: Operation) -> u64
     ensures { result ≡ operation_word operation }
 {

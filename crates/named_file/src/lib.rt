@@ -22,6 +22,7 @@ fn read_opened<F: Read>(file: &mut F, bytes: &mut [u8]) -> Option<usize>
     ensures first { IfSome result (λ size. IfSome (F.remaining file.old) (λ xs. take size bytes.new ≡ take (length bytes.old) xs)) }
 {
     let mut size = 0;
+    // A signal may cut off any number of reads; the count is there so that the loop ends.
     for _ in 0..u64::MAX {
         if size == bytes.len() {
             return Some(size);

@@ -33,16 +33,11 @@ fn join(low: u32, later: u32) -> u32
     (low & GROUP) | (later << 7)
 }
 
+// The file ends inside a number that begins here.
 fn cut(at: usize) -> Result<Parsed, Refused>
     ensures { result ≡ Err (record { refusal = Refusal.Cut; place = at }) }
 {
     Err(Refusal::Cut.at(at))
-}
-
-fn not_shortest(at: usize) -> Result<Parsed, Refused>
-    ensures { result ≡ Err (record { refusal = Refusal.Number; place = at }) }
-{
-    Err(Refusal::Number.at(at))
 }
 
 // The number at a place of a file, 8 and 9 of 01 included.
@@ -66,7 +61,7 @@ pub fn number_at(bytes: &[u8], at: usize) -> Result<Parsed, Refused>
     let middle = u32::from(bytes[at + 1]);
     if middle < FOLLOWS {
         if middle == 0 {
-            return not_shortest(at);
+            return Err(Refusal::Number.at(at));
         }
         return Ok(Parsed {
             value: join(low, middle),
@@ -78,10 +73,10 @@ pub fn number_at(bytes: &[u8], at: usize) -> Result<Parsed, Refused>
     }
     let high = u32::from(bytes[at + 2]);
     if high == 0 {
-        return not_shortest(at);
+        return Err(Refusal::Number.at(at));
     }
     if THIRD_LIMIT < high {
-        return not_shortest(at);
+        return Err(Refusal::Number.at(at));
     }
     Ok(Parsed {
         value: join(low, join(middle, high)),

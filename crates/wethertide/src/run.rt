@@ -27,6 +27,7 @@ fn put_entry(log: &mut [u64], entry: Entry)
     }
 }
 
+// (The loop of `run_schedule` over a log of words. One loop over both would be a trait of logs, its laws and two implementations, for three lines.)
 fn run_by_value(
     m: Machine,
     words: &[u32],

@@ -49,7 +49,8 @@ const STORE: u32 = 11;
 
 const LAST_OPERATION: u32 = 11;
 
-// What a word asks for, by its operation's number.
+// What a word asks for, by its operation's number. An unknown one is a case and no Option of a form: `form_of` answers the theory's table, which
+// holds it.
 #[derive(Clone, Copy)]
 pub enum Form {
     Unknown,

@@ -13,7 +13,7 @@ returns-then-left-le1 c = rw c.cut-then-left-le1.ensures (at-cut_one _ _ c.from-
 
 pub returns-then-middle-eq0 : goal.returns-then-middle-eq0
 returns-then-middle-eq0 c =
-    rw c.not_shortest.ensures
+    rw c.at.ensures
     (at_zero_second _ _ c.from-low.ensures c.if-low-lt-FOLLOWS.false c.from-middle.ensures (omega arith) c.if-middle-eq0.true)
 
 pub returns-then-middle-lt-FOLLOWS : goal.returns-then-middle-lt-FOLLOWS
@@ -28,13 +28,13 @@ returns-then-left-le2 c =
 
 pub returns-then-high-eq0 : goal.returns-then-high-eq0
 returns-then-high-eq0 c =
-    rw c.not_shortest-then-high-eq0.ensures
+    rw c.at-then-high-eq0.ensures
     (at_zero_third _ _ c.from-low.ensures c.if-low-lt-FOLLOWS.false c.from-middle.ensures c.if-middle-lt-FOLLOWS.false c.from-high.ensures
     (omega arith) c.if-high-eq0.true)
 
 pub returns-then-high-gt-THIRD_LIMIT : goal.returns-then-high-gt-THIRD_LIMIT
 returns-then-high-gt-THIRD_LIMIT c =
-    rw c.not_shortest-then-high-gt-THIRD_LIMIT.ensures
+    rw c.at-then-high-gt-THIRD_LIMIT.ensures
     (at_large_third _ _ c.from-low.ensures c.if-low-lt-FOLLOWS.false c.from-middle.ensures c.if-middle-lt-FOLLOWS.false c.from-high.ensures
     (omega arith) c.if-high-gt-THIRD_LIMIT.true)
 
