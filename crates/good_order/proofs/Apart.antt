@@ -10,7 +10,7 @@ use borrow.Author.Tests.{eqb-true, eqb-false, eq-eqb, ne_eqb}
 use Rattle.theory_machine.specs.Machine.{StoreBuffer, free_store, store_cell}
 use Rattle.theory_machine.specs.GoodOrder.{apart}
 use Rattle.machine_parts.specs.declared.StoreBuffer as code
-use Rattle.machine_parts.specs.declared.StoreState.TheVariants.{Free}
+use Rattle.std.specs.Prelude.{None}
 use Rattle.machine_parts.specs.View.{view_store}
 use Rattle.good_order.specs.SlotRules.{cells_apart, stores_apart}
 
@@ -50,10 +50,10 @@ module _ {A : Type 0} where
 
 -- as the code sees them
 abbrev slot : List code.StoreBuffer → (i : ℕ) → code.StoreBuffer
-slot l i = get_or l i (record { state = Free })
+slot l i = get_or l i (record { pending = None })
 
 pub apart_by_pairs : (l : List code.StoreBuffer)
     → stores_apart (map view_store l) ≡ three_apart (view_store (slot l 0)) (view_store (slot l 1)) (view_store (slot l 2))
 apart_by_pairs l =
-    let at : (i : ℕ) → get_or (map view_store l) i free_store ≡ view_store (slot l i) = λ i. get_or-map view_store l i (record { state = Free }) in
+    let at : (i : ℕ) → get_or (map view_store l) i free_store ≡ view_store (slot l i) = λ i. get_or-map view_store l i (record { pending = None }) in
     three-apart (map view_store l) ∙ rw (at 0, at 1, at 2)

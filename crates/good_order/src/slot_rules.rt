@@ -6,7 +6,7 @@ ghost use Rattle.good_order.specs.SlotRules.{place_in, register_good, operand_go
 
 use crate::givers;
 use machine_parts::{
-    Buffer, BufferState, Operand, Register, Station, StationState, StoreBuffer, StoreState, Tag,
+    Buffer, BufferState, Operand, Register, Station, StationState, StoreBuffer, Tag,
 };
 
 // A register's tag has a giver, of whatever place.
@@ -81,9 +81,9 @@ pub(crate) fn store_good(
 ) -> bool
     ensures { result ≡ store_good (place_in places.now) next results (view_store store) }
 {
-    match store.state {
-        StoreState::Free => true,
-        StoreState::Live(pending) => {
+    match store.pending {
+        None => true,
+        Some(pending) => {
             pending.place < next
                 && cell_good(results, pending.cell)
                 && operand_good(pending.operand, pending.place, places)
@@ -94,8 +94,8 @@ pub(crate) fn store_good(
 pub(crate) fn stores_differ(one: StoreBuffer, other: StoreBuffer) -> bool
     ensures { result ≡ cells_apart (view_store one) (view_store other) }
 {
-    match (one.state, other.state) {
-        (StoreState::Live(first), StoreState::Live(second)) => second.cell != first.cell,
+    match (one.pending, other.pending) {
+        (Some(first), Some(second)) => second.cell != first.cell,
         _ => true,
     }
 }

@@ -16,32 +16,32 @@ module _ {A : Type 0} where
   waits_for t (num x) = false
   waits_for t (tag u) = eqb u t
 
-  abbrev pub station_waits_for : (t : ℕ) → theory.Station A → Bool
-  station_waits_for t free_station = false
-  station_waits_for t (holding p o x y) = waits_for t x || waits_for t y
-  station_waits_for t (done p v) = false
+  abbrev pub station_waits : (t : ℕ) → theory.Station A → Bool
+  station_waits t free_station = false
+  station_waits t (holding p o x y) = waits_for t x || waits_for t y
+  station_waits t (done p v) = false
 
-  abbrev pub store_waits_for : (t : ℕ) → theory.StoreBuffer A → Bool
-  store_waits_for t free_store = false
-  store_waits_for t (live p c x) = waits_for t x
+  abbrev pub store_waits : (t : ℕ) → theory.StoreBuffer A → Bool
+  store_waits t free_store = false
+  store_waits t (live p c x) = waits_for t x
 
 module _ (t : ℕ) where
-  abbrev pub waits : Operand → Bool
-  waits o = waits_for t (view_operand o)
+  abbrev pub operand_waiting : Operand → Bool
+  operand_waiting o = waits_for t (view_operand o)
 
-  abbrev pub register_waits : Register → Bool
-  register_waits r = waits_for t (view_register r)
+  abbrev pub register_waiting : Register → Bool
+  register_waiting r = waits_for t (view_register r)
 
-  abbrev pub station_waits : Station → Bool
-  station_waits s = station_waits_for t (view_station s)
+  abbrev pub station_waiting : Station → Bool
+  station_waiting s = station_waits t (view_station s)
 
-  abbrev pub store_waits : StoreBuffer → Bool
-  store_waits s = store_waits_for t (view_store s)
+  abbrev pub store_waiting : StoreBuffer → Bool
+  store_waiting s = store_waits t (view_store s)
 
 -- WHAT A SLOT BECOMES
 module _ (t : ℕ) (v : Float) where
-  abbrev pub given : Operand → Operand
-  given o = operand_of (steps.give t v (view_operand o))
+  abbrev pub given_operand : Operand → Operand
+  given_operand o = operand_of (steps.give t v (view_operand o))
 
   abbrev pub given_register : Register → Register
   given_register r = register_of (steps.give t v (view_register r))

@@ -3,12 +3,10 @@
 
 ghost use Rattle.std.specs.Prelude.{◌≡◌, ℕ, Bool, false, map};
 ghost use Rattle.std.specs.Float.Ieee.{Float};
-ghost use Rattle.machine_bus.specs.Bus.{waits, register_waits, station_waits, store_waits, given, given_register, given_station, given_store};
-ghost use Rattle.machine_bus.specs.Laws.{operand_keeps, register_keeps, station_keeps, store_keeps};
+ghost use Rattle.machine_bus.specs.Bus.{operand_waiting, register_waiting, station_waiting, store_waiting, given_operand, given_register, given_station, given_store};
+ghost use Rattle.machine_bus.specs.Laws.{operand_kept, register_kept, station_kept, store_kept};
 
-use machine_parts::{
-    Operand, Pending, Register, Station, StationState, StoreBuffer, StoreState, Tag, Work,
-};
+use machine_parts::{Operand, Pending, Register, Station, StationState, StoreBuffer, Tag, Work};
 
 // What may wait for a tag, and takes the number of its grant.
 pub trait Waits {
@@ -27,11 +25,11 @@ pub trait Waits {
 }
 
 impl Waits for Operand {
-    ghost waiting = { waits };
+    ghost waiting = { operand_waiting };
 
-    ghost given = { given };
+    ghost given = { given_operand };
 
-    ghost keeps = { operand_keeps };
+    ghost keeps = { operand_kept };
 
     fn waits(&self, tag: Tag) -> bool {
         match *self {
@@ -50,11 +48,11 @@ impl Waits for Operand {
 }
 
 impl Waits for Register {
-    ghost waiting = { register_waits };
+    ghost waiting = { register_waiting };
 
     ghost given = { given_register };
 
-    ghost keeps = { register_keeps };
+    ghost keeps = { register_kept };
 
     fn waits(&self, tag: Tag) -> bool {
         self.operand.waits(tag)
@@ -68,11 +66,11 @@ impl Waits for Register {
 }
 
 impl Waits for Station {
-    ghost waiting = { station_waits };
+    ghost waiting = { station_waiting };
 
     ghost given = { given_station };
 
-    ghost keeps = { station_keeps };
+    ghost keeps = { station_kept };
 
     fn waits(&self, tag: Tag) -> bool {
         match self.state {
@@ -96,24 +94,24 @@ impl Waits for Station {
 }
 
 impl Waits for StoreBuffer {
-    ghost waiting = { store_waits };
+    ghost waiting = { store_waiting };
 
     ghost given = { given_store };
 
-    ghost keeps = { store_keeps };
+    ghost keeps = { store_kept };
 
     fn waits(&self, tag: Tag) -> bool {
-        match self.state {
-            StoreState::Free => false,
-            StoreState::Live(pending) => pending.operand.waits(tag),
+        match self.pending {
+            None => false,
+            Some(pending) => pending.operand.waits(tag),
         }
     }
 
     fn given(&self, tag: Tag, number: f64) -> StoreBuffer {
-        match self.state {
-            StoreState::Free => *self,
-            StoreState::Live(pending) => StoreBuffer {
-                state: StoreState::Live(Pending {
+        match self.pending {
+            None => *self,
+            Some(pending) => StoreBuffer {
+                pending: Some(Pending {
                     operand: pending.operand.given(tag, number),
                     ..pending
                 }),

@@ -8,7 +8,7 @@ ghost use Rattle.theory_machine.specs.GoodOrder.{has_cell};
 ghost use Rattle.machine_parts.specs.View.{view_buffer, view_station, view_store};
 ghost use Rattle.machine_free.specs.Free.{view_free_slot, lowest_buffer_in, lowest_station_in, lowest_store_in, cell_live_in};
 
-use machine_parts::{Buffer, BufferState, Station, StationState, StoreBuffer, StoreState, Tag};
+use machine_parts::{Buffer, BufferState, Station, StationState, StoreBuffer, Tag};
 use numbers::Operation;
 
 pub fn lowest_buffer(bs: [Buffer; Tag::BUFFERS]) -> Option<usize>
@@ -33,15 +33,15 @@ pub fn lowest_station(ss: [Station; Tag::STATIONS], o: Operation) -> Option<usiz
 pub fn lowest_store(ts: [StoreBuffer; StoreBuffer::COUNT]) -> Option<usize>
     ensures { view_free_slot result ≡ lowest_store_in (map view_store ts) }
 {
-    ts.iter().position(|t| matches!(t.state, StoreState::Free))
+    ts.iter().position(|t| t.pending.is_none())
 }
 
 fn store_has(s: StoreBuffer, cell: usize) -> bool
     ensures { result ≡ has_cell cell (store_cell (view_store s)) }
 {
-    match s.state {
-        StoreState::Free => false,
-        StoreState::Live(p) => p.cell == cell,
+    match s.pending {
+        None => false,
+        Some(p) => p.cell == cell,
     }
 }
 

@@ -2,6 +2,7 @@
 use mathlib.Core.Path.{◌≡◌, refl, sym, ap, ◌∙◌}
 use mathlib.Core.List.{List, [], ◌∷◌, map}
 use lib.Ieee.{Float}
+use Rattle.std.specs.Prelude.{Option, Some, None}
 use Rattle.theory_machine.specs.Machine as theory
 use Rattle.theory_machine.specs.Machine.{num, tag, free_buffer, waiting, full, free_station, holding, done, free_store, live}
 use Rattle.machine_parts.specs.declared.Operand.{Operand}
@@ -13,13 +14,12 @@ use Rattle.machine_parts.specs.declared.Buffer.{Buffer}
 use Rattle.machine_parts.specs.declared.StationState.{StationState}
 use Rattle.machine_parts.specs.declared.StationState.TheVariants as station
 use Rattle.machine_parts.specs.declared.Station.{Station}
-use Rattle.machine_parts.specs.declared.StoreState.{StoreState}
-use Rattle.machine_parts.specs.declared.StoreState.TheVariants as store
+use Rattle.machine_parts.specs.declared.Pending.{Pending}
 use Rattle.machine_parts.specs.declared.StoreBuffer.{StoreBuffer}
 use Rattle.machine_parts.specs.declared.Machine.{Machine}
 use Rattle.machine_parts.specs.declared.Record.{Record}
 use Rattle.machine_parts.specs.Back.{operand_of, register_of, buffer_of, station_of, store_of, machine_of, record_of}
-use Rattle.machine_parts.specs.View.{view_operand, view_register, view_buffer_state, view_buffer, view_station_state, view_station, view_store_state, view_store, view, view_record}
+use Rattle.machine_parts.specs.View.{view_operand, view_register, view_buffer_state, view_buffer, view_station_state, view_station, view_pending, view_store, view, view_record}
 
 -- THERE AND BACK
 
@@ -50,11 +50,11 @@ station_back s = go s.state
     go (station.Done h) = refl
 
 pub store_back : (s : StoreBuffer) → store_of (view_store s) ≡ s
-store_back s = go s.state
+store_back s = go s.pending
   where
-    go : (s : StoreState) → store_of (view_store_state s) ≡ record { state = s }
-    go store.Free = refl
-    go (store.Live p) = λ i. record { state = store.Live (record { place = p.place; cell = p.cell; operand = operand_back p.operand i }) }
+    go : (s : Option Pending) → store_of (view_pending s) ≡ record { pending = s }
+    go None = refl
+    go (Some p) = λ i. record { pending = Some (record { place = p.place; cell = p.cell; operand = operand_back p.operand i }) }
 
 maps_back : {A B : Type 0} (f : A → B) (g : B → A) (h : (a : A) → g (f a) ≡ a) (l : List A) → map g (map f l) ≡ l
 maps_back f g h [] = refl

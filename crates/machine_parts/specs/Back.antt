@@ -1,5 +1,5 @@
 -- What a view is of: back from the machine of crate theory_machine to the declared types.
-use Rattle.std.specs.Prelude.{map, Float}
+use Rattle.std.specs.Prelude.{map, Float, Some, None}
 use Rattle.theory_machine.specs.Machine as theory
 use Rattle.theory_machine.specs.Machine.{num, tag, free_buffer, waiting, full, free_station, holding, done, free_store, live}
 use Rattle.machine_parts.specs.declared.Operand.{Operand}
@@ -9,7 +9,6 @@ use Rattle.machine_parts.specs.declared.BufferState.TheVariants as buffer
 use Rattle.machine_parts.specs.declared.Buffer.{Buffer}
 use Rattle.machine_parts.specs.declared.StationState.TheVariants as station
 use Rattle.machine_parts.specs.declared.Station.{Station}
-use Rattle.machine_parts.specs.declared.StoreState.TheVariants as store
 use Rattle.machine_parts.specs.declared.StoreBuffer.{StoreBuffer}
 use Rattle.machine_parts.specs.declared.Machine.{Machine}
 use Rattle.machine_parts.specs.declared.Record.{Record}
@@ -34,8 +33,8 @@ station_of (holding p o x y) =
 station_of (done p v) = record { state = station.Done (record { place = p; number = v }) }
 
 abbrev pub store_of : theory.StoreBuffer Float → StoreBuffer
-store_of free_store = record { state = store.Free }
-store_of (live p c x) = record { state = store.Live (record { place = p; cell = c; operand = operand_of x }) }
+store_of free_store = record { pending = None }
+store_of (live p c x) = record { pending = Some (record { place = p; cell = c; operand = operand_of x }) }
 
 abbrev pub machine_of : theory.Machine Float → Machine
 machine_of m =

@@ -16,8 +16,7 @@ use Rattle.machine_parts.specs.declared.Buffer.{Buffer}
 use Rattle.machine_parts.specs.declared.StationState.{StationState}
 use Rattle.machine_parts.specs.declared.StationState.TheVariants as station
 use Rattle.machine_parts.specs.declared.Station.{Station}
-use Rattle.machine_parts.specs.declared.StoreState.{StoreState}
-use Rattle.machine_parts.specs.declared.StoreState.TheVariants as store
+use Rattle.machine_parts.specs.declared.Pending.{Pending}
 use Rattle.machine_parts.specs.declared.StoreBuffer.{StoreBuffer}
 use Rattle.machine_parts.specs.declared.Machine.{Machine}
 use Rattle.machine_parts.specs.declared.Record.{Record}
@@ -46,12 +45,12 @@ view_station_state (station.Done h) = done h.place h.number
 abbrev pub view_station : Station → theory.Station Float
 view_station s = view_station_state s.state
 
-abbrev pub view_store_state : StoreState → theory.StoreBuffer Float
-view_store_state store.Free = free_store
-view_store_state (store.Live p) = live p.place p.cell (view_operand p.operand)
+abbrev pub view_pending : declared.Option Pending → theory.StoreBuffer Float
+view_pending None = free_store
+view_pending (Some p) = live p.place p.cell (view_operand p.operand)
 
 abbrev pub view_store : StoreBuffer → theory.StoreBuffer Float
-view_store s = view_store_state s.state
+view_store s = view_pending s.pending
 
 abbrev pub view : Machine → theory.Machine Float
 view m =

@@ -107,9 +107,9 @@ pub struct Fetch {
     pub cell: usize,
 }
 
-// A full buffer: its cell's number.
+// What a full buffer holds, its cell's number, and a station that is done, its result: a number that is ready for its grant.
 #[derive(Clone, Copy)]
-pub struct Fetched {
+pub struct Ready {
     pub place: usize,
     pub number: f64,
 }
@@ -118,7 +118,7 @@ pub struct Fetched {
 pub enum BufferState {
     Free,
     Waiting(Fetch),
-    Full(Fetched),
+    Full(Ready),
 }
 
 #[derive(Clone, Copy)]
@@ -135,18 +135,11 @@ pub struct Work {
     pub source: Operand,
 }
 
-// A station that is done: its result.
-#[derive(Clone, Copy)]
-pub struct Worked {
-    pub place: usize,
-    pub number: f64,
-}
-
 #[derive(Clone, Copy)]
 pub enum StationState {
     Free,
     Holding(Work),
-    Done(Worked),
+    Done(Ready),
 }
 
 #[derive(Clone, Copy)]
@@ -162,15 +155,10 @@ pub struct Pending {
     pub operand: Operand,
 }
 
-#[derive(Clone, Copy)]
-pub enum StoreState {
-    Free,
-    Live(Pending),
-}
-
+// Free, or live with the store that it holds.
 #[derive(Clone, Copy)]
 pub struct StoreBuffer {
-    pub state: StoreState,
+    pub pending: Option<Pending>,
 }
 
 impl StoreBuffer {

@@ -6,8 +6,7 @@ ghost use Rattle.machine_parts.specs.View.{view, lent};
 ghost use Rattle.machine_parts.specs.Answers.{view_fresh};
 
 use crate::{
-    Buffer, BufferState, Machine, Operand, Register, Station, StationState, StoreBuffer,
-    StoreState, Tag,
+    Buffer, BufferState, Machine, Operand, Register, Station, StationState, StoreBuffer, Tag,
 };
 use words::refusal::Refusal;
 use words::{Areas, check_list_against};
@@ -34,9 +33,7 @@ fn empty_machine(numbers: [f64; Register::COUNT]) -> Machine
         stations: [Station {
             state: StationState::Free,
         }; Tag::STATIONS],
-        stores: [StoreBuffer {
-            state: StoreState::Free,
-        }; StoreBuffer::COUNT],
+        stores: [StoreBuffer { pending: None }; StoreBuffer::COUNT],
     }
 }
 

@@ -7,17 +7,17 @@ use Rattle.machine_slots.specs.declared.code.Step.{Step}
 use Rattle.machine_slots.specs.declared.code.Step.TheVariants.{Issue, Arrival, Completion, BufferGrant, StationGrant, Release}
 
 -- A CODE, READ
-abbrev pub view_known : Step → codes.Step
-view_known Issue = codes.issue
-view_known (Arrival i) = codes.arrival i
-view_known (Completion i) = codes.completion i
-view_known (BufferGrant i) = codes.buffer_grant i
-view_known (StationGrant i) = codes.station_grant i
-view_known (Release i) = codes.release i
+abbrev pub view_step : Step → codes.Step
+view_step Issue = codes.issue
+view_step (Arrival i) = codes.arrival i
+view_step (Completion i) = codes.completion i
+view_step (BufferGrant i) = codes.buffer_grant i
+view_step (StationGrant i) = codes.station_grant i
+view_step (Release i) = codes.release i
 
-abbrev pub view_step : Option Step → codes.Step
-view_step None = codes.unknown_code
-view_step (Some s) = view_known s
+abbrev pub view_read : Option Step → codes.Step
+view_read None = codes.unknown_code
+view_read (Some s) = view_step s
 
 -- the slot is one of its row
 abbrev pub InRow : Step → Type 0
@@ -29,5 +29,5 @@ InRow (StationGrant i) = i < station_count
 InRow (Release i) = i < store_count
 
 pub record ReadsAs (code : ℕ) (r : Option Step) : Type 0 where
-  pub step : view_step r ≡ step_of code
+  pub step : view_read r ≡ step_of code
   pub within : IfSome r InRow

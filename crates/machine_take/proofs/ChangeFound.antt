@@ -1,5 +1,6 @@
 -- The change that each kind of step comes to.
 use mathlib.Core.Path.{◌≡◌, sym, ap, ◌∙◌}
+use mathlib.Core.List.{[]}
 use Prim.Native.Nat.{ℕ}
 use lib.Ieee.{Float}
 use lib.ListN.{get_or, get_or-map}
@@ -10,44 +11,60 @@ use Rattle.theory_machine.specs.Machine as theory
 use Rattle.theory_machine.specs.Machine.{Lent}
 use Rattle.theory_machine.specs.Binary64.{binary64}
 use Rattle.theory_machine.specs.Issue.{Answer}
-use Rattle.theory_machine.specs.Steps.{perform_step}
-use Rattle.machine_parts.specs.View.{view, view_buffer, view_station, view_store}
+use Rattle.theory_machine.specs.Steps.{arrive, complete, grant_buffer, grant_station, release_store, perform_step}
+use Rattle.machine_parts.specs.View.{view, view_buffer, view_station, view_store, cells_alone}
 use Rattle.machine_parts.specs.declared.Machine.{Machine}
+use Rattle.machine_parts.specs.declared.Buffer.{Buffer}
+use Rattle.machine_parts.specs.declared.Station.{Station}
+use Rattle.machine_parts.specs.declared.StoreBuffer.{StoreBuffer}
 use Rattle.machine_parts.specs.declared.BufferState.TheVariants as buffer
 use Rattle.machine_parts.specs.declared.StationState.TheVariants as station
-use Rattle.machine_parts.specs.declared.StoreState.TheVariants as store
 use Rattle.machine_slots.specs.declared.code.Step.{Step}
-use Rattle.machine_slots.specs.declared.code.Step.TheVariants as step
-use Rattle.machine_slots.specs.Slots.{view_known, ReadsAs}
+use Rattle.machine_slots.specs.declared.code.Step.TheVariants.{Issue, Arrival, Completion, BufferGrant, StationGrant, Release}
+use Rattle.machine_slots.specs.Slots.{view_step, ReadsAs}
 use Rattle.machine_slots.proofs.Codes.{performed}
-use Rattle.machine_take.specs.declared.issue.Issue.{Issue}
+use Rattle.machine_take.specs.declared.issue.Issue as issue
 use Rattle.machine_take.specs.declared.change.Change.{Change}
 use Rattle.machine_take.specs.declared.change.Change.TheVariants.{Issues}
 use Rattle.machine_take.specs.Changes.{Makes, Changes, IssuesNext}
 
-module _ {L : Lent Float} {code : ℕ} where
-  pub no_step : ReadsAs code None → (m : Machine) → Changes L m code (Err Code)
-  no_step read m = record { is = sym (performed read L (view m)); within = tt }
+abbrev free_buffer : Buffer
+free_buffer = record { state = buffer.Free }
 
-  module _ {s r : Step} (read : ReadsAs code (Some r)) (e : r ≡ s) (m : Machine) where
-    pub found : {c : Result Change Refusal} {f : theory.Machine Float → Answer Float} → Makes c f → f (view m) ≡ perform_step binary64 L (view m) (view_known s)
-        → Changes L m code c
-    found h q = record { is = h.is (view m) ∙ q ∙ rw e at (sym (performed read L (view m))); within = h.within m.next }
+abbrev free_station : Station
+free_station = record { state = station.Free }
 
-  module _ {r : Step} (read : ReadsAs code (Some r)) (e : r ≡ step.Issue) (m : Machine) where
-    pub issue_refused : {refusal : Refusal} → IssuesNext m L (Err refusal) → Changes L m code (Err refusal)
-    issue_refused h = record { is = h.is ∙ rw e at (sym (performed read L (view m))); within = h.within }
+abbrev free_store : StoreBuffer
+free_store = record { pending = None }
 
-    pub issue_found : {i : Issue} → IssuesNext m L (Ok i) → Changes L m code (Ok (Issues i))
-    issue_found h = record { is = h.is ∙ rw e at (sym (performed read L (view m))); within = h.within }
+module _ {L : Lent Float} {m : Machine} {code : ℕ} where
+  pub no_step : ReadsAs code None → Changes L m code (Err Code)
+  no_step read = record { is = sym (performed read L (view m)); within = tt }
 
--- a slot of the machine, seen
-module _ {B : Type 0} (m : Machine) (i : ℕ) where
-  pub buffer_seen : (f : theory.Buffer Float → B) → f (view_buffer (get_or m.buffers i (record { state = buffer.Free }))) ≡ f (theory.buffer_at (view m) i)
-  buffer_seen f = ap f (sym (get_or-map view_buffer m.buffers i (record { state = buffer.Free })))
+  module _ {r : Step} (read : ReadsAs code (Some r)) where
+    pub issue_refused : {refusal : Refusal} → r ≡ Issue → IssuesNext m L (Err refusal) → Changes L m code (Err refusal)
+    issue_refused e h = record { is = h.is ∙ rw e at (sym (performed read L (view m))); within = h.within }
 
-  pub station_seen : (f : theory.Station Float → B) → f (view_station (get_or m.stations i (record { state = station.Free }))) ≡ f (theory.station_at (view m) i)
-  station_seen f = ap f (sym (get_or-map view_station m.stations i (record { state = station.Free })))
+    pub issue_found : {i : issue.Issue} → r ≡ Issue → IssuesNext m L (Ok i) → Changes L m code (Ok (Issues i))
+    issue_found e h = record { is = h.is ∙ rw e at (sym (performed read L (view m))); within = h.within }
 
-  pub store_seen : (f : theory.StoreBuffer Float → B) → f (view_store (get_or m.stores i (record { state = store.Free }))) ≡ f (theory.store_at (view m) i)
-  store_seen f = ap f (sym (get_or-map view_store m.stores i (record { state = store.Free })))
+    module _ {c : Result Change Refusal} where
+      found : {s : Step} {f : theory.Machine Float → Answer Float} → r ≡ s → Makes c f → f (view m) ≡ perform_step binary64 L (view m) (view_step s) → Changes L m code c
+      found e h q = record { is = h.is (view m) ∙ q ∙ rw e at (sym (performed read L (view m))); within = h.within m.next }
+
+      pub arrival_found : {i : ℕ} → r ≡ Arrival i → Makes c (λ n. arrive binary64 (cells_alone L.operands) n i (view_buffer (get_or m.buffers i free_buffer))) → Changes L m code c
+      arrival_found {i} e h = found e h (ap (arrive binary64 L (view m) i) (sym (get_or-map view_buffer m.buffers i free_buffer)))
+
+      pub completion_found : {i : ℕ} → r ≡ Completion i → Makes c (λ n. complete binary64 (cells_alone []) n i (view_station (get_or m.stations i free_station))) → Changes L m code c
+      completion_found {i} e h = found e h (ap (complete binary64 L (view m) i) (sym (get_or-map view_station m.stations i free_station)))
+
+      pub buffer_grant_found : {i : ℕ} → r ≡ BufferGrant i → Makes c (λ n. grant_buffer n i (view_buffer (get_or m.buffers i free_buffer))) → Changes L m code c
+      buffer_grant_found {i} e h = found e h (ap (grant_buffer (view m) i) (sym (get_or-map view_buffer m.buffers i free_buffer)))
+
+      pub station_grant_found : {i : ℕ} → r ≡ StationGrant i → Makes c (λ n. grant_station n i (view_station (get_or m.stations i free_station))) → Changes L m code c
+      station_grant_found {i} e h = found e h (ap (grant_station (view m) i) (sym (get_or-map view_station m.stations i free_station)))
+
+      pub release_found : {i : ℕ} → r ≡ Release i → Makes c (λ n. release_store n i (view_store (get_or m.stores i free_store))) → Changes L m code c
+      release_found {i} e h = found e h (ap (release_store (view m) i) (sym (get_or-map view_store m.stores i free_store)))
+
+pub ruleset no_slot_found = (no_step, issue_refused, issue_found)

@@ -39,28 +39,27 @@ registers_in areas (cell_arithmetic o r c) w = w.0
 registers_in areas (register_arithmetic o r x) w = w
 
 -- what is read of an accepted word at a place
-pub record Reading (L : Lent Float) (place r operand : ℕ) (f : Form) : Type 0 where
+pub record Reading (L : Lent Float) (place word r operand : ℕ) (f : Form) : Type 0 where
   pub in_list : place < length L.words
-  pub accepted : refusal_of binary64 L (word_at binary64 L place) ≡ 0
-  pub r1 : r ≡ index_of (r1_field (word_at binary64 L place))
-  pub rest : operand ≡ operand_field (word_at binary64 L place)
-  pub form : f ≡ form_of (operation_field (word_at binary64 L place))
+  pub is : word ≡ word_at binary64 L place
+  pub accepted : refusal_of binary64 L word ≡ 0
+  pub r1 : r ≡ index_of (r1_field word)
+  pub rest : operand ≡ operand_field word
+  pub form : f ≡ form_of (operation_field word)
 
-module _ {L : Lent Float} {place r operand : ℕ} {f : Form} (w : Reading L place r operand f) where
-  decoded : decode (word_at binary64 L place) ≡ instruction_for f r operand
+module _ {L : Lent Float} {place word r operand : ℕ} {f : Form} (w : Reading L place word r operand f) where
+  decoded : decode word ≡ instruction_for f r operand
   unfolding decode
   decoded =
-      is-asked (form_of (operation_field (word_at binary64 L place))) (r1_field (word_at binary64 L place)) (operand_field (word_at binary64 L place))
+      is-asked (form_of (operation_field word)) (r1_field word) (operand_field word)
       ∙ (λ i. instruction_for (sym w.form i) (sym w.r1 i) (sym w.rest i))
 
   pub well_formed : RegistersIn (instruction_for f r operand)
-  well_formed =
-      registers_in (areas_of L) (instruction_for f r operand)
-      (rw decoded at (word_formed (areas_of L) (word_at binary64 L place) w.accepted))
+  well_formed = registers_in (areas_of L) (instruction_for f r operand) (rw decoded at (word_formed (areas_of L) word w.accepted))
 
-module _ (m : Machine) {L : Lent Float} {r operand : ℕ} {f : Form} (w : Reading L m.next r operand f) where
+module _ (m : Machine) {L : Lent Float} {word r operand : ℕ} {f : Form} (w : Reading L m.next word r operand f) where
   pub issue_goes : length L.words < 2 ^ 64 → (c : Result Issue Refusal) → IssueOf m (instruction_for f r operand) c → IssuesNext m L c
   issue_goes fits c h = record {
-    is = rw (lt-leb (length L.words) m.next w.in_list, eq-eqb _ 0 w.accepted, decoded w) h.is;
+    is = rw (lt-leb (length L.words) m.next w.in_list, ← w.is, eq-eqb _ 0 w.accepted, decoded w) h.is;
     within = IfOk-weaker c InRows _ (λ i p. (omega (arith, w.in_list), p)) h.within;
   }

@@ -14,12 +14,16 @@ use Rattle.words.specs.declared.Form.{Form}
 use Rattle.words.specs.declared.Form.TheVariants.{Unknown, LD, LDR, CellArithmetic, RegisterArithmetic, STD}
 use Rattle.machine_parts.specs.declared.Machine as code
 use Rattle.machine_parts.specs.declared.Record as parts
-use Rattle.machine_parts.specs.View.{view, view_record, released_by}
+use Rattle.machine_parts.specs.View.{view, view_record, released_by, lent_with}
 use Rattle.machine_take.specs.declared.issue.Issue.{Issue}
 use Rattle.machine_take.specs.declared.issue.Issue.TheVariants.{Loads, TakesCell, Copies, TakesRegister, Stores}
 use Rattle.machine_take.specs.declared.change.Change.{Change}
 use Rattle.machine_take.specs.declared.change.Change.TheVariants.{Issues, Arrives, Completes, BufferGives, StationGives, Releases}
+use Rattle.machine_take.specs.declared.change.Lent as declared
 use Rattle.machine_take.specs.Taking.{by_release}
+
+abbrev pub view_lent : declared.Lent → Lent Float
+view_lent l = lent_with l.words.now l.operands.now l.results
 
 -- WHAT A CHANGE MAKES of a machine
 

@@ -7,7 +7,7 @@ ghost use Rattle.machine_take.specs.Changes.{issued, InRows, changed, Within, an
 use crate::change::Change;
 use crate::issue::Issue;
 use machine_bus::give;
-use machine_parts::{BufferState, Machine, Operand, Record, StationState, StoreState, Tag};
+use machine_parts::{Machine, Record, Tag};
 use machine_slots::made;
 
 // "every register, station and store operand with that tag takes the number"
@@ -30,30 +30,27 @@ fn apply_issue(m: &mut Machine, issue: Issue)
     m.next = place + 1;
     match issue {
         Issue::Loads(r, cell, b) => {
-            m.registers[r].operand = Operand::Waits(Tag::of_buffer(b));
+            m.registers[r] = made::waiting_register(Tag::of_buffer(b));
             m.buffers[b] = made::fetching(place, cell);
         }
         Issue::TakesCell(o, r, cell, b, u) => {
-            let sink = m.registers[r].operand;
-            let source = Operand::Waits(Tag::of_buffer(b));
-            m.stations[u] = made::holding(place, o, sink, source);
-            m.registers[r].operand = Operand::Waits(Tag::of_station(u));
+            let source = made::waiting_register(Tag::of_buffer(b));
+            m.stations[u] = made::holding(place, o, m.registers[r], source);
+            m.registers[r] = made::waiting_register(Tag::of_station(u));
             m.buffers[b] = made::fetching(place, cell);
         }
         Issue::Copies(r1, r2) => m.registers[r1] = m.registers[r2],
         Issue::TakesRegister(o, r1, r2, u) => {
-            let sink = m.registers[r1].operand;
-            let source = m.registers[r2].operand;
-            m.stations[u] = made::holding(place, o, sink, source);
-            m.registers[r1].operand = Operand::Waits(Tag::of_station(u));
+            m.stations[u] = made::holding(place, o, m.registers[r1], m.registers[r2]);
+            m.registers[r1] = made::waiting_register(Tag::of_station(u));
         }
         Issue::Stores(r, cell, t) => {
-            m.stores[t] = made::pending(place, cell, m.registers[r].operand);
+            m.stores[t] = made::pending(place, cell, m.registers[r]);
         }
     }
 }
 
-// And what is released.
+// The change, stored; the answer is what it releases, if anything.
 #[tactic(auto, using(crate::proofs::Stored::stored))]
 pub(crate) fn apply(m: &mut Machine, change: Change) -> Option<Record>
     requires { Within m.old.next change }
@@ -61,18 +58,18 @@ pub(crate) fn apply(m: &mut Machine, change: Change) -> Option<Record>
 {
     match change {
         Change::Issues(issue) => apply_issue(m, issue),
-        Change::Arrives(b, fetched) => m.buffers[b].state = BufferState::Full(fetched),
-        Change::Completes(u, worked) => m.stations[u].state = StationState::Done(worked),
+        Change::Arrives(b, fetched) => m.buffers[b] = made::full(fetched),
+        Change::Completes(u, worked) => m.stations[u] = made::done(worked),
         Change::BufferGives(b, number) => {
-            m.buffers[b].state = BufferState::Free;
+            m.buffers[b] = made::free_buffer();
             grant(m, Tag::of_buffer(b), number);
         }
         Change::StationGives(u, number) => {
-            m.stations[u].state = StationState::Free;
+            m.stations[u] = made::free_station();
             grant(m, Tag::of_station(u), number);
         }
         Change::Releases(t, record) => {
-            m.stores[t].state = StoreState::Free;
+            m.stores[t] = made::free_store();
             return Some(record);
         }
     }

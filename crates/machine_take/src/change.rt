@@ -3,22 +3,29 @@ ghost use Rattle.std.specs.Prelude.{◌≡◌, [], ◌<◌};
 ghost use Rattle.theory_machine.specs.Tags.{buffer_count, station_count, store_count};
 ghost use Rattle.theory_machine.specs.Binary64.{binary64};
 ghost use Rattle.theory_machine.specs.Steps.{operand_cell, arrive, complete, grant_buffer, grant_station, release_store};
-ghost use Rattle.machine_parts.specs.View.{view_buffer, view_station, view_store, cells_alone, lent_with};
-ghost use Rattle.machine_take.specs.Changes.{Makes, Changes};
+ghost use Rattle.machine_parts.specs.View.{view_buffer, view_station, view_store, cells_alone};
+ghost use Rattle.machine_take.specs.Changes.{view_lent, Makes, Changes};
 
 use crate::issue::{Issue, next_issue};
 use machine_parts::{
-    Buffer, BufferState, Fetched, Machine, Operand, Record, Station, StationState, StoreBuffer,
-    StoreState, Worked,
+    Buffer, BufferState, Machine, Operand, Ready, Record, Station, StationState, StoreBuffer,
 };
 use machine_slots::code::{Step, step_of};
 use words::refusal::Refusal;
 
+// What is lent to a step: the list, the operand cells, and how many result cells there are.
 #[derive(Clone, Copy)]
-pub enum Change {
+pub(crate) struct Lent<'a> {
+    pub(crate) words: &'a [u32],
+    pub(crate) operands: &'a [f64],
+    pub(crate) results: usize,
+}
+
+#[derive(Clone, Copy)]
+pub(crate) enum Change {
     Issues(Issue),
-    Arrives(usize, Fetched),
-    Completes(usize, Worked),
+    Arrives(usize, Ready),
+    Completes(usize, Ready),
     // the giver's number
     BufferGives(usize, f64),
     StationGives(usize, f64),
@@ -29,10 +36,7 @@ pub enum Change {
 fn operand_cell(operands: &[f64], cell: usize) -> f64
     ensures { result ≡ operand_cell binary64 (cells_alone operands.now) cell }
 {
-    match operands.get(cell) {
-        Some(number) => *number,
-        None => 0.0,
-    }
+    operands.get(cell).copied().unwrap_or(0.0)
 }
 
 fn arrival(b: usize, old: Buffer, operands: &[f64]) -> Result<Change, Refusal>
@@ -45,7 +49,7 @@ fn arrival(b: usize, old: Buffer, operands: &[f64]) -> Result<Change, Refusal>
     let number = operand_cell(operands, fetch.cell);
     Ok(Change::Arrives(
         b,
-        Fetched {
+        Ready {
             place: fetch.place,
             number,
         },
@@ -65,7 +69,7 @@ fn completion(u: usize, old: Station) -> Result<Change, Refusal>
     let number = numbers::computed(work.operation, sink, source);
     Ok(Change::Completes(
         u,
-        Worked {
+        Ready {
             place: work.place,
             number,
         },
@@ -96,7 +100,7 @@ fn release(t: usize, old: StoreBuffer) -> Result<Change, Refusal>
     requires { t < store_count }
     ensures { Makes result (λ m. release_store m t (view_store old)) }
 {
-    let StoreState::Live(pending) = old.state else {
+    let Some(pending) = old.pending else {
         return Err(Refusal::NotNow);
     };
     let Operand::Number(number) = pending.operand else {
@@ -112,21 +116,16 @@ fn release(t: usize, old: StoreBuffer) -> Result<Change, Refusal>
     ))
 }
 
-pub(crate) fn change_of(
-    m: &Machine,
-    code: u32,
-    words: &[u32],
-    operands: &[f64],
-    results: usize,
-) -> Result<Change, Refusal>
-    ensures { Changes (lent_with words.now operands.now results) m.now code result }
+#[tactic(auto, using(crate::proofs::ChangeFound::no_slot_found))]
+pub(crate) fn change_of(m: &Machine, code: u32, lent: Lent) -> Result<Change, Refusal>
+    ensures { Changes (view_lent lent.entry) m.now code result }
 {
     let Some(step) = step_of(code) else {
         return Err(Refusal::Code);
     };
     match step {
-        Step::Issue => Ok(Change::Issues(next_issue(m, words, operands, results)?)),
-        Step::Arrival(b) => arrival(b, m.buffers[b], operands),
+        Step::Issue => Ok(Change::Issues(next_issue(m, lent)?)),
+        Step::Arrival(b) => arrival(b, m.buffers[b], lent.operands),
         Step::Completion(u) => completion(u, m.stations[u]),
         Step::BufferGrant(b) => buffer_grant(b, m.buffers[b]),
         Step::StationGrant(u) => station_grant(u, m.stations[u]),

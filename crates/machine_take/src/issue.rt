@@ -1,7 +1,7 @@
 // Issue: which slots an instruction takes, "always using the lowest-numbered free one".
-ghost use Rattle.machine_parts.specs.View.{lent_with};
-ghost use Rattle.machine_take.specs.Changes.{instruction_for, RegistersIn, IssueOf, IssuesNext};
+ghost use Rattle.machine_take.specs.Changes.{view_lent, instruction_for, RegistersIn, IssueOf, IssuesNext};
 
+use crate::change::Lent;
 use machine_free::{cell_live, lowest_buffer, lowest_station, lowest_store};
 use machine_parts::{Machine, Register};
 use numbers::Operation;
@@ -10,7 +10,7 @@ use words::{Areas, Form, word_refusal};
 
 // What an issue takes, by index from 0.
 #[derive(Clone, Copy)]
-pub enum Issue {
+pub(crate) enum Issue {
     // a load, or arithmetic with a cell: R1, the cell, the buffer; of arithmetic also the station
     Loads(usize, usize, usize),
     TakesCell(Operation, usize, usize, usize, usize),
@@ -54,21 +54,15 @@ fn slots_for(m: &Machine, form: Form, r: usize, operand: u32) -> Result<Issue, R
 }
 
 // "for an issue at the list's end 7, else 2, 3, 4 for that word, then 7"
-pub(crate) fn next_issue(
-    m: &Machine,
-    words: &[u32],
-    operands: &[f64],
-    results: usize,
-) -> Result<Issue, Refusal>
-    ensures { IssuesNext m.now (lent_with words.now operands.now results) result }
+pub(crate) fn next_issue(m: &Machine, lent: Lent) -> Result<Issue, Refusal>
+    ensures { IssuesNext m.now (view_lent lent.entry) result }
 {
-    if words.len() <= m.next {
+    let Some(&word) = lent.words.get(m.next) else {
         return Err(Refusal::NotNow);
-    }
-    let word = words[m.next];
+    };
     let areas = Areas {
-        operands: operands.len(),
-        results,
+        operands: lent.operands.len(),
+        results: lent.results,
     };
     word_refusal(word, areas)?;
     let r = Register::index_of(words::r1_of(word));

@@ -4,11 +4,11 @@ ghost use Rattle.std.specs.Prelude.{◌≡◌, length, ◌≤◌, OnErr};
 ghost use Rattle.theory_machine.specs.Binary64.{binary64};
 ghost use Rattle.theory_machine.specs.Steps.{perform};
 ghost use Rattle.machine_parts.specs.View.{view, lent_with};
-ghost use Rattle.machine_take.specs.Changes.{answered, in_room};
+ghost use Rattle.machine_take.specs.Changes.{view_lent, answered, in_room};
 ghost use Rattle.machine_take.specs.Taking.{stopped, view_taken, take_from};
 
-use crate::change::{Change, change_of};
 use crate::apply::apply;
+use crate::change::{Change, Lent, change_of};
 use machine_parts::{Machine, Record};
 use seven_bit::number_at;
 use words::refusal::Refusal;
@@ -23,46 +23,30 @@ pub struct Taken {
 }
 
 // One step. A release wants room for its record.
-fn take_code(
-    m: &mut Machine,
-    code: u32,
-    words: &[u32],
-    operands: &[f64],
-    results: usize,
-    room: bool,
-) -> Result<Option<Record>, Refusal>
-    ensures is { answered result (view m.new) ≡ in_room room (view m.old) (perform binary64 (lent_with words.now operands.now results) (view m.old) code) }
+fn take_code(m: &mut Machine, code: u32, lent: Lent, room: bool) -> Result<Option<Record>, Refusal>
+    ensures is { answered result (view m.new) ≡ in_room room (view m.old) (perform binary64 (view_lent lent.entry) (view m.old) code) }
     ensures refused { OnErr result (m.new ≡ m.old) }
 {
-    let change = change_of(m, code, words, operands, results)?;
+    let change = change_of(m, code, lent)?;
     match change {
         Change::Releases(_, _) if !room => Err(Refusal::Room),
         _ => Ok(apply(m, change)),
     }
 }
 
-// Steps from where it stands.
+// Code after code, up to and including the next release.
 fn until_release(
     taken: &mut Taken,
-    words: &[u32],
-    operands: &[f64],
-    results: usize,
+    lent: Lent,
     schedule: &[u8],
     room: bool,
 ) -> Result<Option<Record>, Refusal>
     requires { taken.old.steps ≤ taken.old.place }
-    ensures { stopped taken.new result ≡ take_from (lent_with words.now operands.now results) room schedule.now (length schedule.now) (view taken.old.machine) taken.old.steps taken.old.place }
+    ensures { stopped taken.new result ≡ take_from (view_lent lent.entry) room schedule.now (length schedule.now) (view taken.old.machine) taken.old.steps taken.old.place }
 {
     while taken.place < schedule.len() {
         let code = number_at(schedule, taken.place)?;
-        let released = take_code(
-            &mut taken.machine,
-            code.value,
-            words,
-            operands,
-            results,
-            room,
-        )?;
+        let released = take_code(&mut taken.machine, code.value, lent, room)?;
         taken.place = code.next;
         taken.steps += 1;
         if released.is_some() {
@@ -90,6 +74,11 @@ pub fn take_codes(
         place: from,
         outcome: Ok(None),
     };
-    taken.outcome = until_release(&mut taken, words, operands, results, schedule, room);
+    let lent = Lent {
+        words,
+        operands,
+        results,
+    };
+    taken.outcome = until_release(&mut taken, lent, schedule, room);
     taken
 }

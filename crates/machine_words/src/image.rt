@@ -11,8 +11,8 @@ use crate::layout::{
 };
 use crate::row::value_or;
 use machine_parts::{
-    Buffer, BufferState, Fetch, Fetched, Machine, Operand, Pending, Register, Station,
-    StationState, StoreBuffer, StoreState, Tag, Work, Worked,
+    Buffer, BufferState, Fetch, Machine, Operand, Pending, Ready, Register, Station, StationState,
+    StoreBuffer, Tag, Work,
 };
 use numbers::Operation;
 use std::array;
@@ -64,7 +64,7 @@ fn buffer_at(row: &[u64], place: usize) -> Buffer
             place: word_at(row, place + 1) as usize,
             cell: word_at(row, place + 2) as usize,
         }),
-        _ => BufferState::Full(Fetched {
+        _ => BufferState::Full(Ready {
             place: word_at(row, place + 1) as usize,
             number: numbers::number_of(word_at(row, place + 2)),
         }),
@@ -84,7 +84,7 @@ fn station_at(row: &[u64], place: usize) -> Station
             sink: operand_at(row, place + 3),
             source: operand_at(row, place + 5),
         }),
-        _ => StationState::Done(Worked {
+        _ => StationState::Done(Ready {
             place: word_at(row, place + 1) as usize,
             number: numbers::number_of(word_at(row, place + 2)),
         }),
@@ -96,15 +96,15 @@ fn store_at(row: &[u64], place: usize) -> StoreBuffer
     requires { place + 5 ≤ image_length }
     ensures { view_store result ≡ image.store_at row.now place }
 {
-    let state = match word_at(row, place) {
-        0 => StoreState::Free,
-        _ => StoreState::Live(Pending {
+    let pending = match word_at(row, place) {
+        0 => None,
+        _ => Some(Pending {
             place: word_at(row, place + 1) as usize,
             cell: word_at(row, place + 2) as usize,
             operand: operand_at(row, place + 3),
         }),
     };
-    StoreBuffer { state }
+    StoreBuffer { pending }
 }
 
 pub fn machine_in(row: &[u64]) -> Machine

@@ -9,7 +9,7 @@ use crate::layout::{
 };
 use crate::row::{put, put_words};
 use machine_parts::{
-    Buffer, BufferState, Machine, Operand, Register, Station, StationState, StoreBuffer, StoreState,
+    Buffer, BufferState, Machine, Operand, Register, Station, StationState, StoreBuffer,
 };
 use numbers::Operation;
 
@@ -89,9 +89,9 @@ impl Spelled<STORE_WIDTH> for StoreBuffer {
     ghost spelling = { λ t. store_words (view_store t) };
 
     fn words(&self) -> [u64; STORE_WIDTH] {
-        match self.state {
-            StoreState::Free => [0; STORE_WIDTH],
-            StoreState::Live(pending) => {
+        match self.pending {
+            None => [0; STORE_WIDTH],
+            Some(pending) => {
                 let x = operand_words(pending.operand);
                 [1, pending.place as u64, pending.cell as u64, x[0], x[1]]
             }

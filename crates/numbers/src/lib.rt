@@ -5,7 +5,7 @@ ghost use Rattle.std.specs.Prelude.{◌≡◌};
 ghost use Rattle.numbers.specs.Number.{apply, pattern_of, number_of};
 
 // The operations of 01's instruction table.
-#[derive(Clone, Copy)]
+#[derive(Clone, Copy, Debug, PartialEq, Eq)]
 pub enum Operation {
     Add,
     Subtract,
@@ -37,10 +37,10 @@ pub fn computed(operation: Operation, r1: f64, operand: f64) -> f64
 pub fn pattern_of(number: f64) -> u64
     ensures { result ≡ pattern_of number }
 {
-    if number != number {
+    if number.is_nan() {
         return NOT_A_NUMBER;
     }
-    f64::to_bits(number)
+    number.to_bits()
 }
 
 // The number of a pattern.
@@ -50,6 +50,6 @@ pub fn number_of(pattern: u64) -> f64
     if pattern % SIGN <= INFINITY {
         f64::from_bits(pattern)
     } else {
-        0.0 / 0.0
+        f64::NAN
     }
 }

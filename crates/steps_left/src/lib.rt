@@ -13,7 +13,7 @@ ghost use Rattle.steps_left.specs.Answers.{view_left};
 ghost use Rattle.steps_left.specs.SlotsLeft.{SlotsLeft};
 
 use good_order::entry_refusal;
-use machine_parts::{Buffer, BufferState, Machine, Station, StationState, StoreBuffer, StoreState};
+use machine_parts::{Buffer, BufferState, Machine, Station, StationState, StoreBuffer};
 use words::refusal::Refusal;
 use words::{Areas, Form};
 
@@ -53,9 +53,9 @@ impl Counted for StoreBuffer {
     ghost weight = { λ s. store_left (view_store s) };
 
     fn left(&self) -> usize {
-        match self.state {
-            StoreState::Free => 0,
-            StoreState::Live(_) => 1,
+        match self.pending {
+            None => 0,
+            Some(_) => 1,
         }
     }
 }

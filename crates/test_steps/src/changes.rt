@@ -1,8 +1,8 @@
 // Changes that a session makes to its fresh machine: any slot, damaged as it likes.
 use crate::scan::{Numbers, quarters};
 use machine_parts::{
-    Buffer, BufferState, Fetch, Fetched, Machine, Operand, Pending, Register, Station,
-    StationState, StoreBuffer, StoreState, Tag, Work, Worked,
+    Buffer, BufferState, Fetch, Machine, Operand, Pending, Ready, Register, Station, StationState,
+    StoreBuffer, Tag, Work,
 };
 use numbers::Operation;
 
@@ -65,55 +65,57 @@ impl Change {
         }
     }
 
-    fn buffer(&self) -> BufferState {
-        let place = self.place;
-        if self.kind == 2 {
-            let cell = self.cell;
-            return BufferState::Waiting(Fetch { place, cell });
+    fn ready(&self) -> Ready {
+        Ready {
+            place: self.place,
+            number: self.number,
         }
-        let number = self.number;
-        BufferState::Full(Fetched { place, number })
     }
 
-    fn station(&self) -> StationState {
-        let place = self.place;
-        if self.kind == 4 {
-            return StationState::Holding(Work {
-                place,
-                operation: self.operation,
-                sink: self.sink,
-                source: self.source,
-            });
+    fn fetch(&self) -> Fetch {
+        Fetch {
+            place: self.place,
+            cell: self.cell,
         }
-        let number = self.number;
-        StationState::Done(Worked { place, number })
     }
 
-    fn store(&self) -> StoreState {
-        StoreState::Live(Pending {
+    fn work(&self) -> Work {
+        Work {
+            place: self.place,
+            operation: self.operation,
+            sink: self.sink,
+            source: self.source,
+        }
+    }
+
+    fn pending(&self) -> Pending {
+        Pending {
             place: self.place,
             cell: self.cell,
             operand: self.sink,
-        })
+        }
+    }
+
+    fn buffer(&self, m: &mut Machine, state: BufferState) {
+        put(&mut m.buffers, self.index, Buffer { state });
+    }
+
+    fn station(&self, m: &mut Machine, state: StationState) {
+        put(&mut m.stations, self.index, Station { state });
     }
 
     fn apply(&self, m: &mut Machine) {
-        let index = self.index;
         let operand = self.sink;
         match self.kind {
             0 => m.next = self.place,
-            1 => put(&mut m.registers, index, Register { operand }),
-            2 | 3 => {
-                let state = self.buffer();
-                put(&mut m.buffers, index, Buffer { state });
-            }
-            4 | 5 => {
-                let state = self.station();
-                put(&mut m.stations, index, Station { state });
-            }
+            1 => put(&mut m.registers, self.index, Register { operand }),
+            2 => self.buffer(m, BufferState::Waiting(self.fetch())),
+            3 => self.buffer(m, BufferState::Full(self.ready())),
+            4 => self.station(m, StationState::Holding(self.work())),
+            5 => self.station(m, StationState::Done(self.ready())),
             _ => {
-                let state = self.store();
-                put(&mut m.stores, index, StoreBuffer { state });
+                let pending = Some(self.pending());
+                put(&mut m.stores, self.index, StoreBuffer { pending });
             }
         }
     }

@@ -19,10 +19,8 @@ use Rattle.theory_machine.specs.Binary64.{binary64}
 use Rattle.machine_parts.specs.declared.Machine.{Machine}
 use Rattle.machine_parts.specs.declared.Record.{Record}
 use Rattle.machine_parts.specs.View.{view, view_record, lent}
-use Rattle.machine_steps.specs.declared.advance.Progress.{Progress}
-use Rattle.machine_steps.specs.declared.advance.Stop.{Stop}
 use Rattle.machine_take.specs.Taking.{Taken}
-use Rattle.machine_steps.specs.Advance.{beginning, blank, stays, stop_of, taken_on, goes, advanced, cells_after}
+use Rattle.machine_steps.specs.Advance.{Progress, Stop, beginning, blank, stays, stop_of, taken_on, goes, advanced, cells_after}
 use Rattle.list_file.proofs.Laid.{sets_append}
 use Rattle.lent_run.specs.ByReleases.{Final, pick, runs, left, run_by_releases}
 use Rattle.lent_run.specs.Run.{Shows}

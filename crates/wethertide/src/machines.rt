@@ -18,7 +18,7 @@ use machine_words::layout::WORDS;
 use machine_words::row::{number_or_zero, put_words};
 use machine_words::spelling::put_machine;
 use std::array;
-use words::refusal::{Refusal, number_of};
+use words::refusal::{ACCEPTED, Refusal, number_of};
 
 // The words of a record, and of each row: what was released, the steps left, the lowest step.
 pub(crate) const RECORD_WORDS: usize = 3;
@@ -113,11 +113,12 @@ pub extern "C" fn wethertide_step(
         return u32::from(Refusal::Room);
     }
     let stepped = machine_steps::step::step(machine_in(machine), words, operands, results, code);
-    if let Ok(made) = stepped.outcome {
-        put_machine(machine, stepped.machine);
-        put_words(released, 0, &released_words(made));
-    }
-    number_of(&stepped.outcome)
+    let Ok(made) = stepped.outcome else {
+        return number_of(&stepped.outcome);
+    };
+    put_machine(machine, stepped.machine);
+    put_words(released, 0, &released_words(made));
+    ACCEPTED
 }
 
 #[unsafe(no_mangle)]

@@ -8,10 +8,10 @@ pub returns-in-BufferGives : goal.returns-in-BufferGives
 returns-in-BufferGives c =
     let i = c.in-BufferGives in
     let h : i.b < buffer_count = rw i.is at c.requires in
-    rw (i.is, c.grant.ensures, buffer_tagged h c.of_buffer.ensures, map-set)
+    rw (i.is, c.grant.ensures, buffer_tagged h c.of_buffer.ensures, map-set, c.free_buffer.ensures)
 
 pub returns-in-StationGives : goal.returns-in-StationGives
 returns-in-StationGives c =
     let i = c.in-StationGives in
     let h : i.u < station_count = rw i.is at c.requires in
-    rw (i.is, c.grant-in-StationGives.ensures, station_tagged h c.of_station.ensures, map-set, map-set)
+    rw (i.is, c.grant-in-StationGives.ensures, station_tagged h c.of_station.ensures, map-set, map-set, c.free_station.ensures)

@@ -6,7 +6,8 @@ use Rattle.machine_take.proofs.issue.next_issue.Goals as goal
 
 pub slots_for-requires : goal.slots_for-requires
 slots_for-requires c = well_formed (record {
-  in_list = c.if-words-m.false;
+  in_list = c.in-Some.ensures.lookup.3.0;
+  is = c.in-Some.ensures.lookup.4 (omega arith) 0;
   accepted = sym c.in_ok-word_refusal.ensures;
   r1 = c.index_of-r.ensures ∙ ap index_of c.r1_of.ensures;
   rest = c.operand_of.ensures;
@@ -15,7 +16,8 @@ slots_for-requires c = well_formed (record {
 
 pub returns : goal.returns
 returns c = issue_goes c.args.m.now (record {
-  in_list = c.if-words-m.false;
+  in_list = c.in-Some.ensures.lookup.3.0;
+  is = c.in-Some.ensures.lookup.4 (omega arith) 0;
   accepted = sym c.in_ok-word_refusal.ensures;
   r1 = c.index_of-r.ensures ∙ ap index_of c.r1_of.ensures;
   rest = c.operand_of.ensures;

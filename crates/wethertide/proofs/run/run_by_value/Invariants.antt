@@ -1,11 +1,12 @@
-use mathlib.Core.Bool.{cond}
-use Prim.Native.Nat.{suc}
+use mathlib.Core.Bool.{true}
+use Rattle.machine_steps.specs.Advance.{view_progress}
 use Rattle.lent_run.specs.ByReleases.{left}
 use Rattle.wethertide.proofs.Logging.{Logs}
 use Rattle.wethertide.proofs.run.run_by_value.Given as goal
 
-abbrev pub invariant-loop-going : goal.invariant-loop-going
-invariant-loop-going l = Logs l.initial.run l.words l.operands l.initial.results l.schedule l.initial.log l.run l.going l.results l.log
+abbrev pub invariant-loop-entry : goal.invariant-loop-entry
+invariant-loop-entry l =
+    Logs (view_progress l.initial.run) l.words l.operands l.initial.results l.schedule l.initial.log (view_progress l.run) true l.results l.log
 
-abbrev pub decreases-loop-going : goal.decreases-loop-going
-decreases-loop-going l = cond l.going (suc (left l.run l.schedule)) 0
+abbrev pub decreases-loop-entry : goal.decreases-loop-entry
+decreases-loop-entry l = left (view_progress l.run) l.schedule
