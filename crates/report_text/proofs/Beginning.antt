@@ -14,7 +14,7 @@ use Rattle.list_file.proofs.Passed.{count_of}
 use Rattle.list_file.proofs.RoundTrip.{is_read}
 use Rattle.printing.specs.Lines.{Nothing}
 use Rattle.theory_report.specs.Report.{read_fault, list_fault, words_in}
-use Rattle.report_text.specs.Files.{opened, ListIs}
+use Rattle.report_text.specs.Files.{opened, ListTaken}
 use Rattle.report_text.proofs.FileFaults.{own_fault, opened_bytes}
 
 -- as many words as there is room for, at most
@@ -27,7 +27,7 @@ list-few room bytes {words} e =
 
 module _ (file : Option (List ℕ)) {bytes : List ℕ} (is : Ok bytes ≡ opened file) (words : List ℕ) (room : length words ≡ list_limit) where
   pub list_taken : {count place : ℕ} {buffer : List ℕ} → record { count = count; refusal = 0; place = place } ≡ read_answer bytes words
-      → buffer ≡ read_words bytes words → ListIs file buffer (Ok count)
+      → buffer ≡ read_words bytes words → ListTaken file buffer (Ok count)
   list_taken {count} {place} {buffer} a w =
       let r = is_read bytes words (sym (ap (λ (x : ListRead). x.refusal) a)) in
       let l : list_in list_limit bytes ≡ accepted r.list r.end = sym (ap (λ n. list_in n bytes) room) ∙ r.is in

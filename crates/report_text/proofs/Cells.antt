@@ -21,7 +21,7 @@ use Rattle.operands_file.proofs.Answered.{good_size, how_many, answered-refused,
 use Rattle.printing.specs.Lines.{Refused}
 use Rattle.printing.specs.declared.Fault.TheVariants as found
 use Rattle.theory_report.specs.Report.{verdict_fault, operands_fault}
-use Rattle.report_text.specs.Files.{opened, CellsAre}
+use Rattle.report_text.specs.Files.{opened, CellsTaken}
 use Rattle.report_text.proofs.FileFaults.{own_fault}
 
 verdict_stops : (v : Verdict) → (v.refusal ≡ 0 → ⊥) → Refused v.refusal v.place ≡ verdict_fault v
@@ -56,7 +56,7 @@ module _ (file : Option (List ℕ)) {bytes : List ℕ} (is : Ok bytes ≡ opened
   enough e = omega (arith, few-numbers e)
 
   pub cells_refused : (e : code.Refused) {cells : List Float} → record { refusal = number e.refusal; place = e.place; count = 0 } ≡ read_answer bytes cells₀
-      → CellsAre file cells (Err (found.Refused e))
+      → CellsTaken file cells (Err (found.Refused e))
   cells_refused e a =
       let z = ap (λ (r : OperandsRead). r.refusal) a in
       let own = refused_as (length cells₀) (length (operands_in bytes)) verdict enough (λ q. number_real e.refusal (z ∙ q)) in

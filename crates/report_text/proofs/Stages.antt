@@ -16,7 +16,7 @@ use Rattle.theory_report.specs.Report.{file_fault, list_fault, operands_fault, s
 use Rattle.report_text.specs.declared.begin.Name.{Name}
 use Rattle.report_text.specs.declared.begin.Name.TheVariants as name
 use Rattle.report_text.specs.declared.begin.Stopped.{Stopped}
-use Rattle.report_text.specs.Files.{given, fault_of, named, name_text, report_lent, lent_by, Stops, Runs}
+use Rattle.report_text.specs.Files.{file_given, fault_of, named, name_text, report_lent, lent_by, Stops, Runs}
 
 -- a stop line is the only line
 only_line : (fault : code.Fault) (name further other : List ℕ) → or_stopped (told_fault (Some fault)) name further ≡ or_stopped (told_fault (Some fault)) name other
@@ -44,24 +44,24 @@ module _ (list operands schedule : Option (List ℕ)) where
   abbrev L : Lent Float
   L = lent_by list operands schedule
 
-  pub stop_list : {A : Type 0} (r : Result A code.Fault) {s : Stopped} → Err s ≡ named r name.List → fault_of r ≡ file_fault (given list) list_fault
+  pub stop_list : {A : Type 0} (r : Result A code.Fault) {s : Stopped} → Err s ≡ named r name.List → fault_of r ≡ file_fault (file_given list) list_fault
       → Stops list operands schedule s
   unfolding report_text
   stop_list r e is = record { text = rw (← is) (stopped r name.List _ e) }
 
-  module _ (one : Nothing ≡ file_fault (given list) list_fault) where
+  module _ (one : Nothing ≡ file_fault (file_given list) list_fault) where
     pub stop_operands : {A : Type 0} (r : Result A code.Fault) {s : Stopped} → Err s ≡ named r name.Operands
-        → fault_of r ≡ file_fault (given operands) operands_fault → Stops list operands schedule s
+        → fault_of r ≡ file_fault (file_given operands) operands_fault → Stops list operands schedule s
     unfolding report_text
     stop_operands r e is = record { text = rw (← one, ← is) (stopped r name.Operands _ e) }
 
-    module _ (two : Nothing ≡ file_fault (given operands) operands_fault) where
+    module _ (two : Nothing ≡ file_fault (file_given operands) operands_fault) where
       pub stop_schedule : {A : Type 0} (r : Result A code.Fault) {s : Stopped} → Err s ≡ named r name.Schedule
-          → fault_of r ≡ file_fault (given schedule) schedule_fault → Stops list operands schedule s
+          → fault_of r ≡ file_fault (file_given schedule) schedule_fault → Stops list operands schedule s
       unfolding report_text
       stop_schedule r e is = record { text = rw (← one, ← two, ← is) (stopped r name.Schedule _ e) }
 
-      module _ (three : Nothing ≡ file_fault (given schedule) schedule_fault) where
+      module _ (three : Nothing ≡ file_fault (file_given schedule) schedule_fault) where
         -- all three files are found good, and read
         module _ (buffer : List ℕ) (count numbers : ℕ) (w : take count buffer ≡ L.words) (n : numbers ≡ length L.operands) where
           abbrev checked : Fault
@@ -88,6 +88,6 @@ module _ (list operands schedule : Option (List ℕ)) where
 
   -- the run that a report tells of
   pub run_text : (buffer : List ℕ) (cells : List Float) (count numbers : ℕ) → take count buffer ≡ L.words → take numbers cells ≡ L.operands
-      → ran_text L (run_of L (bytes_in (given schedule)))
-      ≡ ran_text (report_lent (take count buffer) (take numbers cells)) (run_of (report_lent (take count buffer) (take numbers cells)) (bytes_in (given schedule)))
+      → ran_text L (run_of L (bytes_in (file_given schedule)))
+      ≡ ran_text (report_lent (take count buffer) (take numbers cells)) (run_of (report_lent (take count buffer) (take numbers cells)) (bytes_in (file_given schedule)))
   run_text buffer cells count numbers w m = rw (w, m)

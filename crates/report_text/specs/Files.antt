@@ -23,9 +23,9 @@ abbrev pub report_lent : (words : List ℕ) (operands : List Float) → Lent Flo
 report_lent words operands = record { words = words; operands = operands; results = cell_limit }
 
 -- a file's bytes, where it was named and opened
-abbrev pub given : declared.Option (List ℕ) → Option (List ℕ)
-given None = none
-given (Some bytes) = some bytes
+abbrev pub file_given : declared.Option (List ℕ) → Option (List ℕ)
+file_given None = none
+file_given (Some bytes) = some bytes
 
 -- the file's bytes, or what stops every program at it: missing, then 11
 abbrev pub opened : declared.Option (List ℕ) → Result (List ℕ) code.Fault
@@ -50,37 +50,37 @@ name_text name.Schedule = word.schedule
 name_text name.Areas = word.areas
 
 -- the list as read: its fault; without one, its words stand at the front of the word buffer
-pub record ListIs (file : declared.Option (List ℕ)) (buffer : List ℕ) (answer : Result ℕ code.Fault) : Type 0 where
-  pub is : fault_of answer ≡ file_fault (given file) list_fault
-  pub words : IfOk answer (λ count. take count buffer ≡ words_in (list_in list_limit (bytes_in (given file))))
+pub record ListTaken (file : declared.Option (List ℕ)) (buffer : List ℕ) (answer : Result ℕ code.Fault) : Type 0 where
+  pub is : fault_of answer ≡ file_fault (file_given file) list_fault
+  pub words : IfOk answer (λ count. take count buffer ≡ words_in (list_in list_limit (bytes_in (file_given file))))
   pub few : IfOk answer (λ count. count ≤ list_limit)
 
 -- the operands as read: their fault; without one, the numbers stand at the front of the cells
-pub record CellsAre (file : declared.Option (List ℕ)) (cells : List Float) (answer : Result ℕ code.Fault) : Type 0 where
-  pub is : fault_of answer ≡ file_fault (given file) operands_fault
-  pub numbers : IfOk answer (λ count. take count cells ≡ operands_in (bytes_in (given file)))
-  pub counted : IfOk answer (λ count. count ≡ length (operands_in (bytes_in (given file))))
+pub record CellsTaken (file : declared.Option (List ℕ)) (cells : List Float) (answer : Result ℕ code.Fault) : Type 0 where
+  pub is : fault_of answer ≡ file_fault (file_given file) operands_fault
+  pub numbers : IfOk answer (λ count. take count cells ≡ operands_in (bytes_in (file_given file)))
+  pub counted : IfOk answer (λ count. count ≡ length (operands_in (bytes_in (file_given file))))
   pub few : IfOk answer (λ count. count ≤ cell_limit)
 
 -- WHERE A REPORT BEGINS: at a fault its text is the stop line; without one it is that of the run, the list stands at the front of the word buffer,
 -- and the operands stand at the front of the cells
 module _ (list operands schedule : declared.Option (List ℕ)) where
-  abbrev pub text_of : List ℕ
-  text_of = report_text (given list) (given operands) (given schedule)
+  abbrev pub files_text : List ℕ
+  files_text = report_text (file_given list) (file_given operands) (file_given schedule)
 
   abbrev pub lent_by : Lent Float
-  lent_by = lent_of_files (bytes_in (given list)) (bytes_in (given operands))
+  lent_by = lent_of_files (bytes_in (file_given list)) (bytes_in (file_given operands))
 
   pub record Stops (s : Stopped) : Type 0 where
-    pub text : text_of ≡ or_stopped (told_fault (Some s.fault)) (name_text s.name) []
+    pub text : files_text ≡ or_stopped (told_fault (Some s.fault)) (name_text s.name) []
 
   pub record Runs (buffer : List ℕ) (cells : List Float) (b : Begun) : Type 0 where
-    pub text : text_of ≡ ran_text lent_by (run_of lent_by (bytes_in (given schedule)))
+    pub text : files_text ≡ ran_text lent_by (run_of lent_by (bytes_in (file_given schedule)))
     pub words : take b.words buffer ≡ lent_by.words
     pub numbers : take b.operands cells ≡ lent_by.operands
     pub few_words : b.words ≤ list_limit
     pub few_numbers : b.operands ≤ cell_limit
 
-  abbrev pub Begins : (buffer : List ℕ) (cells : List Float) → Result Begun Stopped → Type 0
-  Begins buffer cells (Ok b) = Runs buffer cells b
-  Begins buffer cells (Err s) = Stops s
+  abbrev pub BeginsWith : (buffer : List ℕ) (cells : List Float) → Result Begun Stopped → Type 0
+  BeginsWith buffer cells (Ok b) = Runs buffer cells b
+  BeginsWith buffer cells (Err s) = Stops s

@@ -4,7 +4,7 @@ ghost use Rattle.std.specs.Result.{result_map_both};
 ghost use Rattle.words.specs.Instructions.{cell_limit, list_limit};
 ghost use Rattle.words.specs.Check.{list_check};
 ghost use Rattle.theory_report.specs.Report.{verdict_fault};
-ghost use Rattle.report_text.specs.Files.{fault_of, opened, named, ListIs, CellsAre, Begins};
+ghost use Rattle.report_text.specs.Files.{fault_of, opened, named, ListTaken, CellsTaken, BeginsWith};
 
 use crate::Files;
 use list_file::reader::read;
@@ -52,7 +52,7 @@ fn opened(file: Option<&[u8]>) -> Result<&[u8], Fault>
 // Then what the reader says.
 fn read_list(file: Option<&[u8]>, words: &mut [u32]) -> Result<usize, Fault>
     requires { length words.old ≡ list_limit }
-    ensures { ListIs (option_copied file.entry) words.new result }
+    ensures { ListTaken (option_copied file.entry) words.new result }
 {
     let bytes = opened(file)?;
     let list = read(bytes, words)?;
@@ -62,7 +62,7 @@ fn read_list(file: Option<&[u8]>, words: &mut [u32]) -> Result<usize, Fault>
 // Then what the reader says.
 fn read_cells(file: Option<&[u8]>, cells: &mut [f64]) -> Result<usize, Fault>
     requires { length cells.old ≡ cell_limit }
-    ensures { CellsAre (option_copied file.entry) cells.new result }
+    ensures { CellsTaken (option_copied file.entry) cells.new result }
 {
     let bytes = opened(file)?;
     let operands = read_operands(bytes, cells)?;
@@ -88,7 +88,7 @@ fn named<A>(answer: Result<A, Fault>, name: Name) -> Result<A, Stopped>
 // The files in 01's order, then the list against its areas.
 pub(crate) fn begin(files: Files, words: &mut [u32], cells: &mut [f64]) -> Result<Begun, Stopped>
     requires { (length words.old ≡ list_limit) × (length cells.old ≡ cell_limit) }
-    ensures { Begins (option_copied files.entry.list) (option_copied files.entry.operands) (option_copied files.entry.schedule) words.new cells.new result }
+    ensures { BeginsWith (option_copied files.entry.list) (option_copied files.entry.operands) (option_copied files.entry.schedule) words.new cells.new result }
 {
     let count = named(read_list(files.list, words), Name::List)?;
     let operands = named(read_cells(files.operands, cells), Name::Operands)?;

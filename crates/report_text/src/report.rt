@@ -1,7 +1,7 @@
 // The report program's text (01, "The report program"), from the bytes of its three files.
 ghost use Rattle.std.specs.Prelude.{option_copied};
 ghost use Rattle.report_text.specs.Put.{Printed};
-ghost use Rattle.report_text.specs.Files.{text_of};
+ghost use Rattle.report_text.specs.Files.{files_text};
 
 use crate::Files;
 use crate::begin::begin;
@@ -13,7 +13,7 @@ use words::{CELL_LIMIT, LIST_LIMIT};
 pub const PAGE: usize = 131072;
 
 pub fn report(files: Files, out: &mut [u8]) -> usize
-    ensures { Printed out.old out.new result (text_of (option_copied files.entry.list) (option_copied files.entry.operands) (option_copied files.entry.schedule)) }
+    ensures { Printed out.old out.new result (files_text (option_copied files.entry.list) (option_copied files.entry.operands) (option_copied files.entry.schedule)) }
 {
     if out.len() < PAGE {
         return 0;
