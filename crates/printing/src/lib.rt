@@ -1,6 +1,9 @@
 // Text put into lent bytes: numbers, patterns, and the lines that every program of document 01 may print.
 #![tactic(auto)]
 
+ghost use Rattle.std.specs.Prelude.{◌≡◌};
+ghost use Rattle.printing.specs.declared.Fault.TheVariants as found;
+
 pub mod lines;
 pub mod put;
 mod room;
@@ -13,4 +16,13 @@ use words::refusal::Refused;
 pub enum Fault {
     Missing,
     Refused(Refused),
+}
+
+// `?` makes a file's refusal its fault.
+impl From<Refused> for Fault {
+    ghost from_gives = { λ refused fault. fault ≡ found.Refused refused };
+
+    fn from(refused: Refused) -> Fault {
+        Fault::Refused(refused)
+    }
 }

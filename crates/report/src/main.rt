@@ -2,7 +2,6 @@
 #![tactic(auto)]
 
 use named_file::read_named;
-use report_text::FilesFound;
 use report_text::report::{PAGE, report};
 use std::io;
 use std::rt::{Env, Files};
@@ -10,12 +9,7 @@ use std::rt::{Env, Files};
 // One byte more than a file may have.
 const FILE_ROOM: usize = 65537;
 
-// What cannot be written ends the program with the error.
-fn write_out(out: &impl Print, text: &[u8]) -> io::Result<()> {
-    out.write_all(text)
-}
-
-// Reads the files, and writes their report.
+// Reads the files, and writes their report. What cannot be written ends the program with the error.
 fn print_report<R: Env + Files + Print>(
     rt: &R,
     list: &mut [u8],
@@ -23,19 +17,13 @@ fn print_report<R: Env + Files + Print>(
     schedule: &mut [u8],
     out: &mut [u8],
 ) -> io::Result<()> {
-    let first = read_named(rt, 1, list);
-    let second = read_named(rt, 2, operands);
-    let third = read_named(rt, 3, schedule);
-    let named = FilesFound {
-        list: first.found,
-        operands: second.found,
-        schedule: third.found,
+    let files = report_text::Files {
+        list: read_named(rt, 1, list).map(|n| &list[..n]),
+        operands: read_named(rt, 2, operands).map(|n| &operands[..n]),
+        schedule: read_named(rt, 3, schedule).map(|n| &schedule[..n]),
     };
-    let l = first.size;
-    let o = second.size;
-    let s = third.size;
-    let n = report(named, &list[..l], &operands[..o], &schedule[..s], out);
-    write_out(rt, &out[..n])
+    let n = report(files, out);
+    rt.write_all(&out[..n])
 }
 
 // Each buffer has one byte more than a file may have.

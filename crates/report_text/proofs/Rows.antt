@@ -1,51 +1,58 @@
 -- The lines of registers and of records, one by one.
 use mathlib.Core.Path.{◌≡◌, sym, ap, ◌∙◌}
 use mathlib.Core.List.{List, [], ◌∷◌, ◌++◌, map, append_assoc, append-nil}
-use Prim.Native.Nat.{ℕ, ◌+◌, ◌*◌, ◌≤◌, ◌<◌}
+use Prim.Native.Nat.{ℕ, suc, ◌+◌, ◌*◌, ◌<◌}
 use native.Mathlib.Omega.{arith}
+use native.Mathlib.Nat.{add-zero, zero-add}
 use native.Mathlib.Numerals.{add-one}
 use lib.Ieee.{nan}
-use lib.ListN.{length, get_or, take, length-map}
+use lib.ListN.{length, get_or, take}
 use lib.Seq.{take-suc, length-take-le}
 use Rattle.machine_parts.specs.declared.Operand.TheVariants.{Number}
 use Rattle.machine_parts.specs.declared.Register.{Register}
 use Rattle.machine_parts.specs.declared.Record.{Record}
 use Rattle.machine_parts.specs.View.{view_register, view_record}
-use Rattle.theory_report.specs.Report.{register_line, register_lines, record_line, record_lines, log_room}
-use Rattle.report_text.specs.Put.{record_limit}
+use Rattle.theory_report.specs.Report.{register_line, register_lines, record_line, record_lines}
 
-abbrev pub line_of : List Register → (i number : ℕ) → List ℕ
-line_of rs i number = register_line number (view_register (get_or rs i (record { operand = Number nan })))
+-- what a place beyond the last is read as
+abbrev pub no_register : Register
+no_register = record { operand = Number nan }
 
-pub four_lines : (rs : List Register) → length rs ≡ 4
-    → register_lines 0 (map view_register rs) ≡ line_of rs 0 0 ++ line_of rs 1 2 ++ line_of rs 2 4 ++ line_of rs 3 6
-four_lines [] e = absurd (omega arith)
-four_lines (a ∷ []) e = absurd (omega arith)
-four_lines (a ∷ b ∷ []) e = absurd (omega arith)
-four_lines (a ∷ b ∷ c ∷ []) e = absurd (omega arith)
-four_lines (a ∷ b ∷ c ∷ d ∷ []) e = simp (append_assoc, append-nil)
-four_lines (a ∷ b ∷ c ∷ d ∷ f ∷ rs) e = absurd (omega arith)
+abbrev pub no_record : Record
+no_record = record { place = 0; cell = 0; number = nan }
 
-abbrev pub record_of : List Record → (i : ℕ) → List ℕ
-record_of log i = record_line (view_record (get_or log i (record { place = 0; cell = 0; number = nan })))
+-- the lines of so many registers
+abbrev pub first_registers : List Register → (count : ℕ) → List ℕ
+first_registers rs count = register_lines 0 (map view_register (take count rs))
+
+register-lines-more : (number : ℕ) (rs : List Register) (r : Register)
+    → register_lines number (map view_register (rs ++ r ∷ []))
+    ≡ register_lines number (map view_register rs) ++ register_line (number + 2 * length rs) (view_register r)
+register-lines-more number [] r = rw (add-zero number) (append-nil (register_line number (view_register r)))
+register-lines-more number (x ∷ rs) r =
+    let k : number + 2 + 2 * length rs ≡ number + 2 * suc (length rs) = omega arith in
+    ap (λ (l : List ℕ). register_line number (view_register x) ++ l) (register-lines-more (number + 2) rs r ∙ rw k)
+    ∙ sym (append_assoc (register_line number (view_register x)) (register_lines (number + 2) (map view_register rs)) _)
+
+pub registers-next : (rs : List Register) (i : ℕ) → i < length rs
+    → first_registers rs (i + 1) ≡ first_registers rs i ++ register_line (2 * i) (view_register (get_or rs i no_register))
+registers-next rs i h =
+    rw (add-one i, take-suc rs i no_register h)
+    (register-lines-more 0 (take i rs) (get_or rs i no_register) ∙ rw (length-take-le i rs (omega arith), zero-add (2 * i)))
 
 -- the lines of so many records
-abbrev pub first_lines : List Record → (count : ℕ) → List ℕ
-first_lines log count = record_lines (map view_record (take count log))
+abbrev pub first_records : List Record → (count : ℕ) → List ℕ
+first_records log count = record_lines (map view_record (take count log))
 
-lines_more : (rs : List Record) (r : Record) → record_lines (map view_record (rs ++ r ∷ [])) ≡ record_lines (map view_record rs) ++ record_line (view_record r)
-lines_more [] r = append-nil (record_line (view_record r))
-lines_more (x ∷ rs) r =
-    ap (λ (l : List ℕ). record_line (view_record x) ++ l) (lines_more rs r)
+record-lines-more : (rs : List Record) (r : Record) → record_lines (map view_record (rs ++ r ∷ [])) ≡ record_lines (map view_record rs) ++ record_line (view_record r)
+record-lines-more [] r = append-nil (record_line (view_record r))
+record-lines-more (x ∷ rs) r =
+    ap (λ (l : List ℕ). record_line (view_record x) ++ l) (record-lines-more rs r)
     ∙ sym (append_assoc (record_line (view_record x)) (record_lines (map view_record rs)) (record_line (view_record r)))
 
-pub first_next : (log : List Record) (i : ℕ) → i < length log → first_lines log (i + 1) ≡ first_lines log i ++ record_of log i
-first_next log i h =
-    let none : Record = record { place = 0; cell = 0; number = nan } in
-    rw (add-one i, take-suc log i none h) (lines_more (take i log) (get_or log i none))
+pub records-next : (log : List Record) (i : ℕ) → i < length log
+    → first_records log (i + 1) ≡ first_records log i ++ record_line (view_record (get_or log i no_record))
+records-next log i h = rw (add-one i, take-suc log i no_record h) (record-lines-more (take i log) (get_or log i no_record))
 
-pub limit_next : (i : ℕ) → (i + 1) * record_limit ≡ i * record_limit + record_limit
-limit_next i = omega arith
-
-pub records-count : (log : List Record) (count : ℕ) → length log ≡ log_room → count ≤ log_room → length (map view_record (take count log)) ≡ count
-records-count log count n h = length-map (take count log) view_record ∙ length-take-le count log (omega arith)
+pub limit_next : (i limit : ℕ) → (i + 1) * limit ≡ i * limit + limit
+limit_next i limit = omega arith

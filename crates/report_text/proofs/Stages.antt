@@ -1,108 +1,93 @@
 -- Where a report begins, by the first file at fault.
-use mathlib.Core.Path.{◌≡◌, ap, ◌∙◌}
-use mathlib.Core.Bool.{true}
+use mathlib.Core.Path.{◌≡◌, refl, ap, ◌∙◌}
 use mathlib.Core.List.{List, []}
 use Prim.Native.Nat.{ℕ, ◌≤◌}
-use native.Mathlib.Omega.{arith}
 use lib.Ieee.{Float}
 use lib.ListN.{length, take}
+use Rattle.std.specs.Prelude.{Option, Some, Result, Ok, Err}
 use Rattle.words.specs.Instructions.{list_limit, cell_limit}
 use Rattle.words.specs.Check.{list_check}
 use Rattle.theory_machine.specs.Machine.{Lent}
-use Rattle.list_file.specs.Reading.{list_in}
-use Rattle.operands_file.specs.Operands.{operands_in}
-use Rattle.printing.specs.declared.Fault.{Fault}
-use Rattle.printing.specs.declared.Fault.TheVariants.{Nothing}
-use Rattle.theory_report.specs.Words as word
-use Rattle.printing.specs.Lines.{is_fault, or_stopped}
-use Rattle.theory_report.specs.Report.{file_fault, list_fault, operands_fault, schedule_fault, words_in, lent_of_files, areas_fault, verdict_fault, run_of, ran_text, report_text}
-use Rattle.report_text.specs.declared.FilesFound.{FilesFound}
+use Rattle.printing.specs.declared.Fault as code
+use Rattle.printing.specs.declared.Fault.TheVariants as found
+use Rattle.printing.specs.Faults.{told_fault}
+use Rattle.printing.specs.Lines.{Fault, Nothing, or_stopped}
+use Rattle.theory_report.specs.Report.{file_fault, list_fault, operands_fault, schedule_fault, areas_fault, verdict_fault, bytes_in, run_of, ran_text, report_text}
 use Rattle.report_text.specs.declared.begin.Name.{Name}
 use Rattle.report_text.specs.declared.begin.Name.TheVariants as name
-use Rattle.report_text.specs.declared.begin.Begun.{Begun}
-use Rattle.report_text.specs.Files.{report_lent, given, name_text, text_of, Begins}
-use Rattle.report_text.proofs.Beginning.{only_line, not_none, was_found}
+use Rattle.report_text.specs.declared.begin.Stopped.{Stopped}
+use Rattle.report_text.specs.Files.{file_given, fault_of, named, name_text, report_lent, lent_by, Stops, Runs}
 
-module _ (found : FilesFound) (list operands schedule : List ℕ) where
-  abbrev first : Fault
-  first = file_fault (given found.list list) list_fault
+-- a stop line is the only line
+only_line : (fault : code.Fault) (name further other : List ℕ) → or_stopped (told_fault (Some fault)) name further ≡ or_stopped (told_fault (Some fault)) name other
+only_line found.Missing name further other = refl
+only_line (found.Refused r) name further other = refl
 
-  abbrev second : Fault
-  second = file_fault (given found.operands operands) operands_fault
+module _ {A : Type 0} where
+  -- an answer that was named: a fault is the line's, and without one there is none
+  stopped : (r : Result A code.Fault) (n : Name) {s : Stopped} (further : List ℕ) → Err s ≡ named r n
+      → or_stopped (fault_of r) (name_text n) further ≡ or_stopped (told_fault (Some s.fault)) (name_text s.name) []
+  stopped (Ok a) n further e = cc
+  stopped (Err f) n {s} further e =
+      let k : record { name = n; fault = f } ≡ s = cc in
+      only_line f (name_text n) further [] ∙ ap (λ (s : Stopped). or_stopped (told_fault (Some s.fault)) (name_text s.name) []) k
 
-  abbrev third : Fault
-  third = file_fault (given found.schedule schedule) schedule_fault
+  pub passed : (r : Result A code.Fault) (n : Name) {a : A} → Ok a ≡ named r n → Nothing ≡ fault_of r
+  passed (Ok x) n e = refl
+  passed (Err f) n e = cc
 
-  abbrev further : List ℕ
-  further = ran_text (lent_of_files list operands) (run_of (lent_of_files list operands) schedule)
+  pub taken : (r : Result A code.Fault) (n : Name) {a : A} → Ok a ≡ named r n → r ≡ Ok a
+  taken (Ok x) n e = cc
+  taken (Err f) n e = cc
 
-  -- a report that stops: its text is the stop line, and nothing else is promised
-  stops : (n : Name) (fault : Fault) → is_fault fault ≡ true → text_of found list operands schedule ≡ or_stopped fault (name_text n) further
-      → {buffer : List ℕ} {cells : List Float}
-      → Begins found list operands schedule buffer cells (record { name = n; fault = fault; words = 0; operands = 0 })
-  stops n fault e t = record {
-    text = t;
-    words = not_none fault e;
-    numbers = not_none fault e;
-    few_words = omega arith;
-    few_numbers = omega arith;
-  }
+module _ (list operands schedule : Option (List ℕ)) where
+  abbrev L : Lent Float
+  L = lent_by list operands schedule
 
-  pub stop_list : {fault : Fault} → fault ≡ first → is_fault fault ≡ true → {buffer : List ℕ} {cells : List Float}
-      → Begins found list operands schedule buffer cells (record { name = name.List; fault = fault; words = 0; operands = 0 })
+  pub stop_list : {A : Type 0} (r : Result A code.Fault) {s : Stopped} → Err s ≡ named r name.List → fault_of r ≡ file_fault (file_given list) list_fault
+      → Stops list operands schedule s
   unfolding report_text
-  stop_list {fault} is e = stops name.List fault e (rw (← is) (only_line fault word.list _ further e))
+  stop_list r e is = record { text = rw (← is) (stopped r name.List _ e) }
 
-  module _ (one : first ≡ Nothing) where
-    pub stop_operands : {fault : Fault} → fault ≡ second → is_fault fault ≡ true → {buffer : List ℕ} {cells : List Float}
-        → Begins found list operands schedule buffer cells (record { name = name.Operands; fault = fault; words = 0; operands = 0 })
+  module _ (one : Nothing ≡ file_fault (file_given list) list_fault) where
+    pub stop_operands : {A : Type 0} (r : Result A code.Fault) {s : Stopped} → Err s ≡ named r name.Operands
+        → fault_of r ≡ file_fault (file_given operands) operands_fault → Stops list operands schedule s
     unfolding report_text
-    stop_operands {fault} is e = stops name.Operands fault e (rw (one, ← is) (only_line fault word.operands _ further e))
+    stop_operands r e is = record { text = rw (← one, ← is) (stopped r name.Operands _ e) }
 
-    module _ (two : second ≡ Nothing) where
-      pub stop_schedule : {fault : Fault} → fault ≡ third → is_fault fault ≡ true → {buffer : List ℕ} {cells : List Float}
-          → Begins found list operands schedule buffer cells (record { name = name.Schedule; fault = fault; words = 0; operands = 0 })
+    module _ (two : Nothing ≡ file_fault (file_given operands) operands_fault) where
+      pub stop_schedule : {A : Type 0} (r : Result A code.Fault) {s : Stopped} → Err s ≡ named r name.Schedule
+          → fault_of r ≡ file_fault (file_given schedule) schedule_fault → Stops list operands schedule s
       unfolding report_text
-      stop_schedule {fault} is e = stops name.Schedule fault e (rw (one, two, ← is) (only_line fault word.schedule _ further e))
+      stop_schedule r e is = record { text = rw (← one, ← two, ← is) (stopped r name.Schedule _ e) }
 
-      module _ (three : third ≡ Nothing) where
-        -- all three files are found good
-        all-good : text_of found list operands schedule ≡ or_stopped (areas_fault (lent_of_files list operands)) word.areas further
-        unfolding report_text
-        all-good =
-            let a = was_found found.list list list_fault one in
-            let b = was_found found.operands operands operands_fault two in
-            let c = was_found found.schedule schedule schedule_fault three in
-            rw (one, two, three, a, b, c)
+      module _ (three : Nothing ≡ file_fault (file_given schedule) schedule_fault) where
+        -- all three files are found good, and read
+        module _ (buffer : List ℕ) (count numbers : ℕ) (w : take count buffer ≡ L.words) (n : numbers ≡ length L.operands) where
+          abbrev checked : Fault
+          checked = verdict_fault (list_check (record { operands = numbers; results = cell_limit }) (take count buffer))
 
-        pub begun : {buffer : List ℕ} {cells : List Float} {count numbers : ℕ} {fault : Fault}
-            → take count buffer ≡ words_in (list_in list_limit list) → count ≤ list_limit
-            → take numbers cells ≡ operands_in operands → numbers ≡ length (operands_in operands) → numbers ≤ cell_limit
-            → fault ≡ verdict_fault (list_check (record { operands = numbers; results = cell_limit }) (take count buffer))
-            → Begins found list operands schedule buffer cells (record { name = name.Areas; fault = fault; words = count; operands = numbers })
-        begun {buffer} {cells} {count} {numbers} {fault} w n m k l f =
-            let same : fault ≡ areas_fault (lent_of_files list operands) = f ∙ rw (w, k) in
-            record {
-              text = all-good ∙ rw (← same);
-              words = λ z. w;
-              numbers = λ z. m;
-              few_words = n;
-              few_numbers = l;
-            }
+          same : checked ≡ areas_fault L
+          same = rw (w, n)
 
--- what the beginning says of the report's text
-module _ (found : FilesFound) (list operands schedule : List ℕ) {buffer : List ℕ} {cells : List Float} {b : Begun}
-    (s : Begins found list operands schedule buffer cells b) where
-  pub stop_text : is_fault b.fault ≡ true → text_of found list operands schedule ≡ or_stopped b.fault (name_text b.name) []
-  stop_text e = s.text ∙ only_line b.fault (name_text b.name) _ [] e
+          pub stop_areas : {A : Type 0} (r : Result A code.Fault) {s : Stopped} → Err s ≡ named r name.Areas → fault_of r ≡ checked
+              → Stops list operands schedule s
+          unfolding report_text
+          stop_areas r e is = record { text = rw (← one, ← two, ← three, ← (is ∙ same)) (stopped r name.Areas _ e) }
 
-  module _ (n : b.fault ≡ Nothing) where
-    same-lent : lent_of_files list operands ≡ report_lent (take b.words buffer) (take b.operands cells)
-    same-lent = rw (s.words n, s.numbers n)
+          pub runs : {cells : List Float} → Nothing ≡ checked → take numbers cells ≡ L.operands → count ≤ list_limit → numbers ≤ cell_limit
+              → Runs list operands schedule buffer cells (record { words = count; operands = numbers })
+          unfolding report_text
+          runs four m k l = record {
+            text = rw (← one, ← two, ← three, ← (four ∙ same));
+            words = w;
+            numbers = m;
+            few_words = k;
+            few_numbers = l;
+          }
 
-    pub run-text : text_of found list operands schedule
-        ≡ ran_text (report_lent (take b.words buffer) (take b.operands cells)) (run_of (report_lent (take b.words buffer) (take b.operands cells)) schedule)
-    run-text =
-        s.text
-        ∙ ap (λ (f : Fault). or_stopped f (name_text b.name) (ran_text (lent_of_files list operands) (run_of (lent_of_files list operands) schedule))) n
-        ∙ ap (λ (L : Lent Float). ran_text L (run_of L schedule)) same-lent
+  -- the run that a report tells of
+  pub run_text : (buffer : List ℕ) (cells : List Float) (count numbers : ℕ) → take count buffer ≡ L.words → take numbers cells ≡ L.operands
+      → ran_text L (run_of L (bytes_in (file_given schedule)))
+      ≡ ran_text (report_lent (take count buffer) (take numbers cells)) (run_of (report_lent (take count buffer) (take numbers cells)) (bytes_in (file_given schedule)))
+  run_text buffer cells count numbers w m = rw (w, m)

@@ -15,7 +15,7 @@ use Rattle.theory_run.proofs.Theorems.{run_is_asked}
 use Rattle.machine_parts.specs.declared.Machine.{Machine}
 use Rattle.machine_parts.specs.declared.Record.{Record}
 use Rattle.machine_parts.specs.View.{view, view_record, lent}
-use Rattle.machine_steps.specs.declared.advance.Progress.{Progress}
+use Rattle.machine_steps.specs.Advance.{Progress}
 use Rattle.lent_run.specs.Run.{Shows, RunAnswer}
 use Rattle.theory_report.specs.Report.{page_text, ran_text, nought, start_of, run_of, log_room}
 use Rattle.printing.specs.Put.{PutIn}

@@ -2,16 +2,15 @@
 #![tactic(auto)]
 
 mod begin;
-mod faults;
 mod page;
 pub mod report;
 mod stop;
 mod told;
 
-// Whether each file was named and opened.
+// The bytes of each file that was named and opened.
 #[derive(Clone, Copy)]
-pub struct FilesFound {
-    pub list: bool,
-    pub operands: bool,
-    pub schedule: bool,
+pub struct Files<'a> {
+    pub list: Option<&'a [u8]>,
+    pub operands: Option<&'a [u8]>,
+    pub schedule: Option<&'a [u8]>,
 }

@@ -1,16 +1,22 @@
 // Changes that a session makes to its fresh machine: any slot, damaged as it likes.
-use crate::scan::{quarters, scan_number};
+use crate::scan::{Numbers, quarters};
 use machine_parts::{
     Buffer, BufferState, Fetch, Machine, Operand, Pending, Ready, Register, Station, StationState,
     StoreBuffer, Tag, Work,
 };
 use numbers::Operation;
 
-// A machine, and the place of the session's next number.
+// A change, by its nine numbers: kind, index, place, cell, operation, sink (waits, value), source (waits, value). A number that is put is the sink's value.
 #[derive(Clone, Copy)]
-pub(crate) struct Standing {
-    pub machine: Machine,
-    pub at: usize,
+struct Change {
+    kind: usize,
+    index: usize,
+    place: usize,
+    cell: usize,
+    operation: Operation,
+    number: f64,
+    sink: Operand,
+    source: Operand,
 }
 
 fn operation_of(n: usize) -> Operation {
@@ -29,113 +35,95 @@ fn operand_of(waits: usize, value: usize) -> Operand {
     Operand::Waits(Tag((value % 256) as u8))
 }
 
-// The nine numbers of a change: kind, index, place, cell, operation, sink (waits, value), source (waits, value).
-fn nine_at(bytes: &[u8], start: usize, nine: &mut [usize]) -> usize {
-    let mut at = start;
-    for number in nine.iter_mut() {
-        let found = scan_number(bytes, at);
-        *number = found.value;
-        at = found.at;
-    }
-    at
-}
-
-fn buffer_of(kind: usize, place: usize, cell: usize, number: f64) -> Buffer {
-    if kind == 2 {
-        return Buffer {
-            state: BufferState::Waiting(Fetch { place, cell }),
-        };
-    }
-    Buffer {
-        state: BufferState::Full(Ready { place, number }),
+// A slot of a row; an index past the row changes nothing.
+fn put<T: Copy>(row: &mut [T], index: usize, slot: T) {
+    if index < row.len() {
+        row[index] = slot;
     }
 }
 
-fn station_of(kind: usize, worked: Ready, work: Work) -> Station {
-    if kind == 4 {
-        return Station {
-            state: StationState::Holding(work),
-        };
-    }
-    Station {
-        state: StationState::Done(worked),
-    }
-}
-
-// The machine with one slot changed; an index past its row changes nothing.
-fn changed(m: Machine, nine: [usize; 9]) -> Machine {
-    let mut n = m;
-    let kind = nine[0];
-    let index = nine[1];
-    let place = nine[2];
-    let cell = nine[3];
-    let sink = operand_of(nine[5], nine[6]);
-    let source = operand_of(nine[7], nine[8]);
-    let number = quarters(nine[6]);
-    if kind == 0 {
-        n.next = place;
-        return n;
-    }
-    if kind == 1 {
-        if index < Register::COUNT {
-            n.registers[index] = Register { operand: sink };
+impl Change {
+    fn read(numbers: &mut Numbers) -> Change {
+        let kind = numbers.next();
+        let index = numbers.next();
+        let place = numbers.next();
+        let cell = numbers.next();
+        let operation = operation_of(numbers.next());
+        let sink_waits = numbers.next();
+        let sink = numbers.next();
+        let source_waits = numbers.next();
+        let source = numbers.next();
+        Change {
+            kind,
+            index,
+            place,
+            cell,
+            operation,
+            number: quarters(sink),
+            sink: operand_of(sink_waits, sink),
+            source: operand_of(source_waits, source),
         }
-        return n;
     }
-    if kind < 4 {
-        if index < Tag::BUFFERS {
-            n.buffers[index] = buffer_of(kind, place, cell, number);
+
+    fn ready(&self) -> Ready {
+        Ready {
+            place: self.place,
+            number: self.number,
         }
-        return n;
     }
-    if kind < 6 {
-        if index < Tag::STATIONS {
-            let operation = operation_of(nine[4]);
-            n.stations[index] = station_of(
-                kind,
-                Ready { place, number },
-                Work {
-                    place,
-                    operation,
-                    sink,
-                    source,
-                },
-            );
+
+    fn fetch(&self) -> Fetch {
+        Fetch {
+            place: self.place,
+            cell: self.cell,
         }
-        return n;
     }
-    if index < StoreBuffer::COUNT {
-        n.stores[index] = StoreBuffer {
-            pending: Some(Pending {
-                place,
-                cell,
-                operand: sink,
-            }),
-        };
+
+    fn work(&self) -> Work {
+        Work {
+            place: self.place,
+            operation: self.operation,
+            sink: self.sink,
+            source: self.source,
+        }
     }
-    n
+
+    fn pending(&self) -> Pending {
+        Pending {
+            place: self.place,
+            cell: self.cell,
+            operand: self.sink,
+        }
+    }
+
+    fn buffer(&self, m: &mut Machine, state: BufferState) {
+        put(&mut m.buffers, self.index, Buffer { state });
+    }
+
+    fn station(&self, m: &mut Machine, state: StationState) {
+        put(&mut m.stations, self.index, Station { state });
+    }
+
+    fn apply(&self, m: &mut Machine) {
+        let operand = self.sink;
+        match self.kind {
+            0 => m.next = self.place,
+            1 => put(&mut m.registers, self.index, Register { operand }),
+            2 => self.buffer(m, BufferState::Waiting(self.fetch())),
+            3 => self.buffer(m, BufferState::Full(self.ready())),
+            4 => self.station(m, StationState::Holding(self.work())),
+            5 => self.station(m, StationState::Done(self.ready())),
+            _ => {
+                let pending = Some(self.pending());
+                put(&mut m.stores, self.index, StoreBuffer { pending });
+            }
+        }
+    }
 }
 
-fn change(s: Standing, bytes: &[u8]) -> Standing {
-    let mut nine = [0usize; 9];
-    let at = nine_at(bytes, s.at, &mut nine);
-    let m = s.machine;
-    Standing {
-        machine: changed(m, nine),
-        at,
+// A count and so many changes.
+pub(crate) fn changes(numbers: &mut Numbers, m: &mut Machine) {
+    for _ in 0..numbers.next() {
+        Change::read(numbers).apply(m);
     }
-}
-
-// A count and so many changes, at most as many as there are bytes.
-pub(crate) fn changes(s: Standing, bytes: &[u8]) -> Standing {
-    let counted = scan_number(bytes, s.at);
-    let m = s.machine;
-    let mut now = Standing {
-        machine: m,
-        at: counted.at,
-    };
-    for _ in 0..counted.value {
-        now = change(now, bytes);
-    }
-    now
 }

@@ -2,7 +2,6 @@
 // A session is a text of whole numbers (scan.rt); second/src/commands/steps.rs says what stands where.
 #![tactic(auto)]
 
-use crate::say::text;
 use std::io::Read;
 use std::rt::{Files, Runtime};
 use std::{env, fs, io};
@@ -28,8 +27,7 @@ fn session_bytes<R: Files + Alloc>(rt: &R, name: &str) -> io::Result<Vec<u8, R::
 fn one(rt: &impl Runtime, name: &str) -> io::Result<()> {
     match session_bytes(rt, name) {
         Ok(bytes) => {
-            text(rt, name)?;
-            text(rt, "\n")?;
+            println!(rt; "{name}")?;
             session::session(rt, bytes.as_slice())
         }
         Err(error) => eprintln!(rt; "{name}: {error}"),

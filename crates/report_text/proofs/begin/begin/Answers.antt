@@ -1,65 +1,50 @@
-use mathlib.Core.Path.{sym, ◌∙◌}
-use native.Mathlib.Omega.{arith}
-use lib.Seq.{length-take-le}
-use Rattle.report_text.proofs.Beginning.{no_fault}
-use Rattle.report_text.proofs.Stages.{stop_list, stop_operands, stop_schedule, begun}
+use mathlib.Core.Path.{◌∙◌}
+use Rattle.std.specs.Prelude.{option_copied}
+use Rattle.words.proofs.Refusals.{handed_on}
+use Rattle.report_text.specs.declared.begin.Name.TheVariants as name
+use Rattle.report_text.proofs.FileFaults.{opened_fault}
+use Rattle.report_text.proofs.Stages.{passed, taken, stop_list, stop_operands, stop_schedule, stop_areas, runs}
 use Rattle.report_text.proofs.begin.begin.Goals as goal
 
--- in each: where a file has been looked at has that file's name
-pub returns-then-stops : goal.returns-then-stops
-returns-then-stops c =
-    let a = c.args in
-    rw c.at_fault.ensures
-    (stop_list a.named a.list.now a.operands.now a.schedule.now
-    c.read_list-words_read.ensures.is
-    (sym c.stops.ensures ∙ c.if-stops.true))
+-- in each: where a file is without a fault, that file's place in 01's order
+pub returns-in_err-count : goal.returns-in_err-count
+returns-in_err-count c =
+    rw (handed_on _ _ c.from_residual.ensures.1) (stop_list _ _ _ _ c.in_err-count.ensures c.read_list.ensures.is)
 
-pub returns-then-stops-2 : goal.returns-then-stops-2
-returns-then-stops-2 c =
-    let a = c.args in
-    let l = c.read_list-words_read in
-    let one = sym l.ensures.is ∙ no_fault l.result.fault (sym c.stops.ensures ∙ c.if-stops.false) in
-    rw c.at_fault-then-stops-2.ensures
-    (stop_operands a.named a.list.now a.operands.now a.schedule.now
-    one
-    c.read_cells-cells_read.ensures.is
-    (sym c.stops-2.ensures ∙ c.if-stops-2.true))
+pub returns-in_err-operands : goal.returns-in_err-operands
+returns-in_err-operands c =
+    let one = passed _ name.List c.in_ok-count.ensures ∙ c.read_list.ensures.is in
+    rw (handed_on _ _ c.from_residual-in_err-operands.ensures.1) (stop_operands _ _ _ one _ c.in_err-operands.ensures c.read_cells.ensures.is)
 
-pub returns-then-stops-3 : goal.returns-then-stops-3
-returns-then-stops-3 c =
-    let a = c.args in
-    let l = c.read_list-words_read in
-    let one = sym l.ensures.is ∙ no_fault l.result.fault (sym c.stops.ensures ∙ c.if-stops.false) in
-    let o = c.read_cells-cells_read in
-    let two = sym o.ensures.is ∙ no_fault o.result.fault (sym c.stops-2.ensures ∙ c.if-stops-2.false) in
-    rw c.at_fault-then-stops-3.ensures
-    (stop_schedule a.named a.list.now a.operands.now a.schedule.now
-    one
-    two
-    c.schedule_fault-third.ensures
-    (sym c.stops-3.ensures ∙ c.if-stops-3.true))
+pub returns-in_err-named : goal.returns-in_err-named
+returns-in_err-named c =
+    let one = passed _ name.List c.in_ok-count.ensures ∙ c.read_list.ensures.is in
+    let two = passed _ name.Operands c.in_ok-operands.ensures ∙ c.read_cells.ensures.is in
+    rw (handed_on _ _ c.from_residual-in_err-named.ensures.1)
+    (stop_schedule _ _ _ one two _ c.in_err-named.ensures (opened_fault _ (option_copied c.args.files.schedule) _ c.opened.ensures))
 
-pub slice_bounds-areas_fault-end-2 : goal.slice_bounds-areas_fault-end-2
-slice_bounds-areas_fault-end-2 c =
-    let room = c.requires.0 in
-    let l = c.read_list-words_read in
-    sym (length-take-le l.result.count l.new.words (omega (arith, l.ensures.few, l.auto.words, room)))
+pub returns-in_err-named-2 : goal.returns-in_err-named-2
+returns-in_err-named-2 c =
+    let one = passed _ name.List c.in_ok-count.ensures ∙ c.read_list.ensures.is in
+    let two = passed _ name.Operands c.in_ok-operands.ensures ∙ c.read_cells.ensures.is in
+    let three = passed _ name.Schedule c.in_ok-named.ensures ∙ opened_fault _ (option_copied c.args.files.schedule) _ c.opened.ensures in
+    let words = rw (taken _ name.List c.in_ok-count.ensures) at c.read_list.ensures.words in
+    let counted = rw (taken _ name.Operands c.in_ok-operands.ensures) at c.read_cells.ensures.counted in
+    rw (handed_on _ _ c.from_residual-in_err-named-2.ensures.1)
+    (stop_areas _ _ _ one two three _ _ _ words counted _ c.in_err-named-2.ensures c.check_areas.ensures)
 
 pub returns : goal.returns
 returns c =
-    let a = c.args in
-    let l = c.read_list-words_read in
-    let words = no_fault l.result.fault (sym c.stops.ensures ∙ c.if-stops.false) in
-    let one = sym l.ensures.is ∙ words in
-    let o = c.read_cells-cells_read in
-    let numbers = no_fault o.result.fault (sym c.stops-2.ensures ∙ c.if-stops-2.false) in
-    let two = sym o.ensures.is ∙ numbers in
-    let t = c.schedule_fault-third in
-    let three = sym t.ensures ∙ no_fault t.result (sym c.stops-3.ensures ∙ c.if-stops-3.false) in
-    begun a.named a.list.now a.operands.now a.schedule.now one two three
-    (l.ensures.words words)
-    l.ensures.few
-    (o.ensures.numbers numbers)
-    (o.ensures.counted numbers)
-    o.ensures.few
-    c.areas_fault-last.ensures
+    let one = passed _ name.List c.in_ok-count.ensures ∙ c.read_list.ensures.is in
+    let two = passed _ name.Operands c.in_ok-operands.ensures ∙ c.read_cells.ensures.is in
+    let three = passed _ name.Schedule c.in_ok-named.ensures ∙ opened_fault _ (option_copied c.args.files.schedule) _ c.opened.ensures in
+    let four = passed _ name.Areas c.in_ok-named-2.ensures ∙ c.check_areas.ensures in
+    let list = taken _ name.List c.in_ok-count.ensures in
+    let operands = taken _ name.Operands c.in_ok-operands.ensures in
+    runs _ _ _ one two three _ _ _
+    (rw list at c.read_list.ensures.words)
+    (rw operands at c.read_cells.ensures.counted)
+    four
+    (rw operands at c.read_cells.ensures.numbers)
+    (rw list at c.read_list.ensures.few)
+    (rw operands at c.read_cells.ensures.few)

@@ -1,10 +1,10 @@
 use native.Mathlib.Omega.{arith}
-use borrow.Author.Rules.{rules}
+use lib.ListN.{length-map}
+use Rattle.machine_parts.specs.View.{view_record}
 use Rattle.printing.proofs.Putting.{in_then, in_more}
-use Rattle.report_text.proofs.Rows.{records-count}
 use Rattle.report_text.proofs.page.put_page.Goals as goal
 
 pub returns : goal.returns
 returns c =
-    rw (records-count c.args.log c.args.records (search rules) c.requires.0)
+    rw (length-map c.args.records.now view_record)
     (in_more 131072 (in_then c.put_head-second.ensures c.put_records.ensures) (omega (arith, c.requires.0)))

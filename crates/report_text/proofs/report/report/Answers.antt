@@ -1,37 +1,22 @@
-use mathlib.Core.Path.{sym, ◌∙◌}
-use native.Mathlib.Omega.{arith}
-use lib.Seq.{length-take-le}
-use Rattle.report_text.proofs.Beginning.{no_fault}
-use Rattle.report_text.proofs.Stages.{stop_text, run-text}
-use Rattle.report_text.proofs.Whole.{printed_none, printed_put}
+use mathlib.Core.Path.{◌≡◌, refl, sym, ap, ◌∙◌}
+use Rattle.std.specs.Prelude.{option_copied}
+use Rattle.theory_report.specs.Report.{bytes_in}
+use Rattle.report_text.specs.Files.{file_given}
+use Rattle.report_text.proofs.FileFaults.{or_none}
+use Rattle.report_text.proofs.Stages.{run_text}
+use Rattle.report_text.proofs.Whole.{printed_put}
 use Rattle.report_text.proofs.report.report.Goals as goal
 
-pub returns-then-out-lt-PAGE : goal.returns-then-out-lt-PAGE
-returns-then-out-lt-PAGE c = printed_none _ c.if-out-lt-PAGE.true
+pub returns-in-Err : goal.returns-in-Err
+returns-in-Err c =
+    let s = rw c.in-Err.is at c.begin.ensures in
+    rw s.text (printed_put c.if-out-lt-PAGE.false c.put_stop.ensures)
 
-pub returns-then-stops : goal.returns-then-stops
-returns-then-stops c =
-    let a = c.args in
-    rw
-    (stop_text a.named a.list.now a.operands.now a.schedule.now c.begin-begun.ensures (sym c.stops.ensures ∙ c.if-stops.true))
-    (printed_put c.if-out-lt-PAGE.false c.put_stop.ensures)
-
-pub slice_bounds-told_run-end : goal.slice_bounds-told_run-end
-slice_bounds-told_run-end c =
-    let r = c.begin-begun in
-    sym (length-take-le r.result.words r.new.words (omega (arith, r.ensures.few_words, r.auto.words)))
-
-pub slice_bounds-told_run-end-2 : goal.slice_bounds-told_run-end-2
-slice_bounds-told_run-end-2 c =
-    let r = c.begin-begun in
-    sym (length-take-le r.result.operands r.new.cells (omega (arith, r.ensures.few_numbers, r.auto.cells)))
-
-pub told_run-requires : goal.told_run-requires
-told_run-requires c = c.if-out-lt-PAGE.false
-
-pub returns : goal.returns
-returns c =
-    let a = c.args in
-    let r = c.begin-begun in
-    let no_stop = no_fault r.result.fault (sym c.stops.ensures ∙ c.if-stops.false) in
-    rw (run-text a.named a.list.now a.operands.now a.schedule.now r.ensures no_stop) (printed_put c.if-out-lt-PAGE.false c.told_run.ensures)
+pub returns-in-Ok : goal.returns-in-Ok
+returns-in-Ok c =
+    let files = c.args.files in
+    let s = rw c.in-Ok.is at c.begin.ensures in
+    let schedule : bytes_in (file_given (option_copied files.schedule)) ≡ c.unwrap_or-schedule.result.now =
+    or_none files.schedule _ refl ∙ ap (λ b. b.now) (sym c.unwrap_or-schedule.ensures) in
+    let text = run_text (option_copied files.list) (option_copied files.operands) (option_copied files.schedule) _ _ _ _ s.words s.numbers in
+    rw (s.text ∙ text, schedule) (printed_put c.if-out-lt-PAGE.false c.told_run.ensures)
