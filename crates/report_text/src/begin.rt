@@ -49,7 +49,7 @@ fn opened(file: Option<&[u8]>) -> Result<&[u8], Fault>
     Ok(bytes)
 }
 
-// Then what the reader says.
+// How many words a list has, or what its reader says.
 fn read_list(file: Option<&[u8]>, words: &mut [u32]) -> Result<usize, Fault>
     requires { length words.old ≡ list_limit }
     ensures { ListTaken (option_copied file.entry) words.new result }
@@ -59,7 +59,7 @@ fn read_list(file: Option<&[u8]>, words: &mut [u32]) -> Result<usize, Fault>
     Ok(list.count)
 }
 
-// Then what the reader says.
+// How many numbers the operands are, or what their reader says.
 fn read_cells(file: Option<&[u8]>, cells: &mut [f64]) -> Result<usize, Fault>
     requires { length cells.old ≡ cell_limit }
     ensures { CellsTaken (option_copied file.entry) cells.new result }

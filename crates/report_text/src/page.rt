@@ -1,4 +1,4 @@
-// The lines of a report, each stored at a place of the lent bytes.
+// The lines of a report, each stored at a place of the lent bytes. (Part by part, the place handed on: so crate printing puts text.)
 ghost use Rattle.std.specs.Prelude.{map, ◌+◌, ◌*◌, ◌≤◌, length};
 ghost use Rattle.words.specs.Refusals.{answer_number};
 ghost use Rattle.machine_parts.specs.View.{view_operand, view_register, view_record};

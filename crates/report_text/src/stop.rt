@@ -9,7 +9,7 @@ ghost use Rattle.report_text.specs.Files.{name_text};
 use crate::begin::{Name, Stopped};
 use printing::stop::put_line;
 
-fn text_of(name: Name) -> &'static [u8]
+fn name_text(name: Name) -> &'static [u8]
     ensures { result.now ≡ name_text name }
 {
     match name {
@@ -24,5 +24,5 @@ pub(crate) fn put_stop(out: &mut [u8], stopped: Stopped) -> usize
     requires { page_room ≤ length out.old }
     ensures { PutIn page_room out.old out.new 0 result (or_stopped (told_fault (Some stopped.fault)) (name_text stopped.name) []) }
 {
-    put_line(out, 0, text_of(stopped.name), Some(stopped.fault))
+    put_line(out, 0, name_text(stopped.name), Some(stopped.fault))
 }

@@ -1,10 +1,7 @@
 // A run: the machine that it starts from, its schedule, and what is told of it.
-ghost use Rattle.std.specs.Prelude.{◌≡◌, map, ◌≤◌, length, take};
-ghost use Rattle.words.specs.Refusals.{answer_number};
-ghost use Rattle.theory_machine.specs.Entries.{steps_left};
-ghost use Rattle.theory_machine.specs.Binary64.{binary64};
-ghost use Rattle.machine_parts.specs.View.{view, view_record, lent};
-ghost use Rattle.theory_report.specs.Report.{start_of, run_of, ran_text, page_text, log_room};
+ghost use Rattle.std.specs.Prelude.{◌≡◌, ◌≤◌, length};
+ghost use Rattle.machine_parts.specs.View.{view, lent};
+ghost use Rattle.theory_report.specs.Report.{start_of, run_of, ran_text};
 ghost use Rattle.printing.specs.Put.{PutIn};
 ghost use Rattle.report_text.specs.Put.{page_room};
 ghost use Rattle.report_text.specs.Files.{report_lent};
@@ -13,7 +10,6 @@ use crate::page::put_page;
 use lent_run::run::{LOG_ROOM, run_schedule};
 use machine_parts::start::fresh;
 use machine_parts::{Machine, Record, Register};
-use machine_steps::advance::Progress;
 use steps_left::steps_left;
 use words::CELL_LIMIT;
 
@@ -22,22 +18,6 @@ fn start(words: &[u32], operands: &[f64], results: &[f64]) -> Machine
     ensures { view result ≡ start_of (lent words.now operands.now results.now) }
 {
     fresh(words, operands, results, [0.0; Register::COUNT]).machine
-}
-
-// The report of a run: its answer, the machine at its end, and the records of the log.
-fn tell(
-    out: &mut [u8],
-    words: &[u32],
-    operands: &[f64],
-    results: &[f64],
-    run: &Progress,
-    records: &[Record],
-) -> usize
-    requires { (length records.now ≤ log_room) × (page_room ≤ length out.old) }
-    ensures { PutIn page_room out.old out.new 0 result (page_text run.now.steps (answer_number run.now.outcome) run.now.place (steps_left binary64 (lent words.now operands.now results.now) (view run.now.machine)).left (view run.now.machine).registers (map view_record records.now)) }
-{
-    let left = steps_left(run.machine, words, operands, results).unwrap_or(0);
-    put_page(out, run, left, records)
 }
 
 // "All registers and 256 result cells start at +0. The log has 2,048 records."
@@ -53,5 +33,6 @@ pub(crate) fn told_run(out: &mut [u8], words: &[u32], operands: &[f64], schedule
         number: 0.0,
     }; LOG_ROOM];
     let run = run_schedule(machine, words, operands, &mut results, schedule, &mut log);
-    tell(out, words, operands, &results, &run, &log[..run.records])
+    let left = steps_left(run.machine, words, operands, &results).unwrap_or(0);
+    put_page(out, &run, left, &log[..run.records])
 }

@@ -19,6 +19,7 @@ struct Change {
     source: Operand,
 }
 
+// (A match: the operation's type is another crate's, which knows nothing of a session's numbers.)
 fn operation_of(n: usize) -> Operation {
     match n {
         0 => Operation::Add,
