@@ -66,7 +66,8 @@ fn keep_words(bytes: &[u8], start: usize, kept: &mut [u32]) -> Result<(), Refuse
     Ok(())
 }
 
-// A file whose count was accepted. "A refused call .. writes nothing" (01), so the words wait until the whole file is accepted.
+// A file whose count was accepted. "A refused call .. writes nothing" (01), so the words wait until the whole file is accepted, in a row of fixed size: the
+// library has no heap.
 fn read_words(
     bytes: &[u8],
     start: usize,

@@ -34,6 +34,7 @@ fn refused(machine: Machine, refusal: Refusal) -> Stepped
     }
 }
 
+// The list and the areas stay parameters apart, as C has them and as `step_determined` and `demand_three` speak of them; so in each entry.
 // Order for one step: 1, 6, 5; for an issue at the list's end 7, else 2, 3, 4 for that word, then 7. A known code is one byte, so a step is
 // the run of a schedule of that byte.
 pub fn step(m: Machine, words: &[u32], operands: &[f64], results: &mut [f64], code: u32) -> Stepped

@@ -1,4 +1,5 @@
-// Text stored at a place of the lent bytes: each function answers the place after it, or the place itself where there is no room.
+// Text stored at a place of the lent bytes: each function answers the place after it, or the place itself where there is no room. (Bytes and place stay
+// two parameters: `put_text_determined` and its kin speak of both, and of the place that is answered.)
 ghost use Rattle.std.specs.Prelude.{◌≡◌, ◌<◌, length};
 ghost use Rattle.numbers.specs.Number.{pattern_of};
 ghost use Rattle.printing.specs.Text as text;

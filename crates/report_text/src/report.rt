@@ -18,6 +18,7 @@ pub fn report(files: Files, out: &mut [u8]) -> usize
     if out.len() < PAGE {
         return 0;
     }
+    // Rows of fixed size, since the report is made without a heap.
     let mut words = [0u32; LIST_LIMIT];
     let mut cells = [0.0f64; CELL_LIMIT];
     match begin(files, &mut words, &mut cells) {
