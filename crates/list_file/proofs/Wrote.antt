@@ -7,7 +7,7 @@ use native.Mathlib.Omega.{arith}
 use lib.Dec.{ltb}
 use lib.ListN.{length}
 use lib.Seq.{sets}
-use borrow.Author.Tests.{ltb-false, lt-ltb, le-ltb, eq-eqb, ne_eqb}
+use borrow.Author.Tests.{ltb-false, lt-ltb, le-ltb, ne_eqb}
 use Rattle.words.specs.Instructions.{list_limit}
 use Rattle.words.specs.Check.{Verdict}
 use Rattle.words.specs.declared.Areas.{Areas}

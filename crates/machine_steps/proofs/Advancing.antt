@@ -19,7 +19,7 @@ use Rattle.theory_machine.specs.Binary64.{binary64}
 use Rattle.theory_machine.specs.Asked.{written}
 use Rattle.machine_parts.specs.declared.Machine.{Machine}
 use Rattle.machine_parts.specs.declared.Record.{Record}
-use Rattle.machine_parts.specs.View.{view, view_released, lent_with}
+use Rattle.machine_parts.specs.View.{view, lent_with}
 use Rattle.std.specs.Prelude as given
 use Rattle.std.specs.Prelude.{Some, None, Result, Ok, Err}
 use Rattle.words.specs.declared.refusal.Refusal.{Refusal}

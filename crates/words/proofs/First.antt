@@ -1,9 +1,9 @@
 -- The refusal of a word: that of the first of its fields that is refused.
-use mathlib.Core.Path.{◌≡◌, refl, sym, ◌∙◌}
+use mathlib.Core.Path.{◌≡◌, refl, sym}
 use mathlib.Core.List.{[], ◌∷◌}
 use Prim.Native.Nat.{ℕ, zero, suc}
 use native.Mathlib.Omega.{arith}
-use borrow.Author.Tests.{ne_eqb, eq-eqb}
+use borrow.Author.Tests.{ne_eqb}
 use Rattle.words.specs.declared.Areas.{Areas}
 use Rattle.words.specs.Instructions.{operation_field, r1_field, operand_field, form_of}
 use Rattle.words.specs.Check.{first_of, operation_refusal, register_refusal, operand_refusal, word_refusal}

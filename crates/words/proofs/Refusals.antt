@@ -1,7 +1,7 @@
 -- Refusals and their numbers: no number is 0, and each is one refusal's alone.
 use mathlib.Core.Path.{◌≡◌, refl, sym, ap, ◌∙◌}
-use mathlib.Core.Bool.{Bool, true, false, true≢false}
-use Prim.Native.Nat.{ℕ, suc}
+use mathlib.Core.Bool.{true, false, true≢false}
+use Prim.Native.Nat.{ℕ}
 use native.Mathlib.Omega.{arith}
 use mathlib.Core.List.{[], ◌∷◌}
 use lib.Dec.{eqb}
@@ -11,7 +11,6 @@ use Rattle.std.specs.Prelude.{Result, Ok, Err, is_ok, is_err, IsErrAnd}
 use Rattle.words.specs.declared.refusal.Refusal.{Refusal}
 use Rattle.words.specs.declared.refusal.Refusal.TheVariants.{List, Operation, Register, Cell, Code, Order, NotNow, Cut, Number, Left, Room}
 use Rattle.words.specs.declared.refusal.Refused.{Refused}
-use Rattle.words.specs.Check.{Verdict}
 use Rattle.words.specs.Refusals.{number, answer_number, verdict, placed}
 
 -- the way back

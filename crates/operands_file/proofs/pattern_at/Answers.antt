@@ -1,7 +1,7 @@
 use mathlib.Core.Path.{◌≡◌, ap, ◌∙◌}
 use Prim.Native.Nat.{◌+◌, ◌-◌, ◌<◌}
 use native.Mathlib.Omega.{arith}
-use lib.ListN.{take, drop, get_or}
+use lib.ListN.{take, drop}
 use Rattle.operands_file.specs.Operands.{big_endian, pattern_at}
 use Rattle.operands_file.proofs.Joining.{joining_none, joining_small, joining_more, joining_all, pattern_byte, pattern_length}
 use Rattle.operands_file.proofs.pattern_at.Goals as goal

@@ -1,5 +1,4 @@
 use mathlib.Core.Path.{refl}
-use native.Mathlib.Omega.{arith}
 use Rattle.operands_file.proofs.Joining.{laying_none, laying_more, laying_all}
 use Rattle.operands_file.proofs.store_numbers.Goals as goal
 

@@ -1,9 +1,7 @@
 use mathlib.Core.Path.{refl, sym, ap, ◌∙◌}
 use lib.ListN.{length}
-use Rattle.words.specs.Refusals.{number}
 use Rattle.words.proofs.Refusals.{number_real, handed_on, placed_err, placed_ok}
-use Rattle.seven_bit.specs.SevenBits.{refused}
-use Rattle.list_file.specs.Reading.{count_refusal, list_in, answered}
+use Rattle.list_file.specs.Reading.{count_refusal, list_in}
 use Rattle.list_file.specs.Answers.{told_read}
 use Rattle.list_file.proofs.Inverse.{field_passes, field_fails, field_broken}
 use Rattle.list_file.proofs.Passed.{count_of}

@@ -1,4 +1,3 @@
-use mathlib.Core.Path.{◌∙◌}
 use Rattle.words.proofs.Refusals.{ok_is}
 use Rattle.machine_steps.proofs.Advancing.{begins_so}
 use Rattle.machine_steps.proofs.advance.begun.Goals as goal

@@ -1,10 +1,9 @@
 use borrow.Author.Rules.{rules}
 use borrow.Author.Tests.{le-leb, lt-leb}
 use mathlib.Core.Path.{refl, ap, ◌∙◌}
-use lib.Ieee.{Float, nan}
+use lib.Ieee.{Float}
 use lib.Seq.{sets}
 use Rattle.theory_machine.specs.Entries.{OneAtATime}
-use Rattle.machine_parts.proofs.Four.{four}
 use Rattle.wethertide.proofs.Entries.{carried, front_set}
 use Rattle.wethertide.proofs.Room.{is-short, is-roomy}
 use Rattle.wethertide.proofs.machines.wethertide_one_at_a_time.Goals as goal

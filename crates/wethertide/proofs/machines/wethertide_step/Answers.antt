@@ -3,7 +3,7 @@ use borrow.Author.Tests.{le-leb, lt-leb}
 use Rattle.words.specs.Refusals.{answer_number}
 use Rattle.machine_parts.specs.View.{released_by}
 use Rattle.wethertide.specs.Entries.{released_words}
-use Rattle.wethertide.proofs.Entries.{step-refused, step-taken}
+use Rattle.wethertide.proofs.Entries.{step-taken}
 use Rattle.wethertide.proofs.Room.{not_first, both_tests, is-short, is-roomy}
 use Rattle.wethertide.proofs.machines.wethertide_step.Goals as goal
 
