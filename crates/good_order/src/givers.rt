@@ -6,7 +6,8 @@ ghost use Rattle.good_order.specs.SlotRules.{place_of, place_table, place_in};
 
 use machine_parts::{Buffer, BufferState, Station, StationState, Tag};
 
-// Nobody's place: a machine in good order holds none as high, since each is below the next one.
+// Nobody's place: a machine in good order holds none as high, since each is below the next one. (No Option: "at most that place" and "below it" are false of
+// it without a case, and the definitions `place_of` and `place_table` hold it.)
 pub(crate) const NEVER: usize = 0xFFFF_FFFF_FFFF_FFFF;
 
 fn buffer_place(buffer: Buffer) -> usize
@@ -29,7 +30,7 @@ fn station_place(station: Station) -> usize
     }
 }
 
-// By tag; 0 and 7 are nobody's.
+// By tag; 0 and 7 are nobody's. (One row, made once a call: a struct of it would be unpacked in each rule.)
 pub(crate) fn giver_places(
     buffers: [Buffer; Tag::BUFFERS],
     stations: [Station; Tag::STATIONS],
@@ -38,10 +39,10 @@ pub(crate) fn giver_places(
 {
     let mut places = [NEVER; Tag::LIMIT];
     for (i, buffer) in buffers.iter().enumerate() {
-        places[Tag::FIRST_BUFFER as usize + i] = buffer_place(*buffer);
+        places[usize::from(Tag::FIRST_BUFFER) + i] = buffer_place(*buffer);
     }
     for (i, station) in stations.iter().enumerate() {
-        places[Tag::FIRST_STATION as usize + i] = station_place(*station);
+        places[usize::from(Tag::FIRST_STATION) + i] = station_place(*station);
     }
     places
 }

@@ -11,13 +11,14 @@ ghost use Rattle.machine_free.specs.Free.{view_free_slot, lowest_buffer_in, lowe
 use machine_parts::{Buffer, BufferState, Station, StationState, StoreBuffer, Tag};
 use numbers::Operation;
 
+// (Kept beside `lowest_store`: a buffer and a store buffer are free in ways of their own, and each search is a line.)
 pub fn lowest_buffer(bs: [Buffer; Tag::BUFFERS]) -> Option<usize>
     ensures { view_free_slot result ≡ lowest_buffer_in (map view_buffer bs) }
 {
     bs.iter().position(|b| matches!(b.state, BufferState::Free))
 }
 
-// A free station of the operation's kind.
+// A free station of the operation's kind, which goes by its index.
 fn station_serves(s: Station, i: usize, o: Operation) -> bool
     ensures { result ≡ suits i o && is_free_station (view_station s) }
 {

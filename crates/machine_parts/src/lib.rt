@@ -1,4 +1,4 @@
-// What the machine of document 01 holds (01, "Tags and what the machine holds"), and a fresh machine. In each enum the free case comes first: an array's default is free.
+// What the machine of document 01 holds (01, "Tags and what the machine holds"), and a fresh machine.
 #![tactic(auto)]
 
 pub mod start;
@@ -68,7 +68,7 @@ impl Tag {
         if Self::STATIONS <= index {
             return false;
         }
-        let adder = (Self::FIRST_ADDER - Self::FIRST_STATION) as usize;
+        let adder = usize::from(Self::FIRST_ADDER - Self::FIRST_STATION);
         match operation {
             Operation::Add => adder <= index,
             Operation::Subtract => adder <= index,

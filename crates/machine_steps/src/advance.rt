@@ -10,7 +10,8 @@ use words::Areas;
 use words::refusal::Refusal;
 
 // How far a run has come, and its answer: machine, steps done, byte place of the refused code (or the length), the refusal, records written. Only
-// `begun` makes one from a machine, since `going` is private: so good order, once tested, need not be tested again.
+// `begun` makes one from a machine, since `going` is private: so good order, once tested, need not be tested again. (`going` is no part of the outcome,
+// which is Ok at a release as at the end: `advance_determined`.)
 #[derive(Clone, Copy)]
 pub struct Progress {
     pub machine: Machine,

@@ -34,7 +34,7 @@ fn take_code(m: &mut Machine, code: u32, lent: Lent, room: bool) -> Result<Optio
     }
 }
 
-// Code after code, up to and including the next release.
+// Code after code, up to and including the next release. (No count of places: a code's bytes move the place.)
 fn until_release(
     taken: &mut Taken,
     lent: Lent,
@@ -56,7 +56,7 @@ fn until_release(
     Ok(None)
 }
 
-// From a place of the schedule on; steps are counted from there.
+// From a place of the schedule on; steps are counted from there. (List and areas stay parameters apart: `take_codes_determined`.)
 pub fn take_codes(
     m: Machine,
     words: &[u32],

@@ -35,7 +35,7 @@ fn operand_at(row: &[u64], place: usize) -> Operand
     }
 }
 
-// The numbers of the C interface. (No `From`: type and number are both of other crates.)
+// The numbers of the C interface, above the last one the last. (No `From` in crate numbers, which knows nothing of that interface.)
 fn operation_at(row: &[u64], place: usize) -> Operation
     ensures { result ≡ image.operation_at row.now place }
 {

@@ -121,7 +121,7 @@ pub fn put_machine(row: &mut [u64], m: Machine)
     put_row(row, STORES, &m.stores);
 }
 
-// A step that was refused leaves the row word for word as found.
+// A step that was refused leaves the row word for word as found. (A flag and no Option of a machine: `put_taken_determined` speaks of both.)
 pub fn put_taken(row: &mut [u64], m: Machine, taken: bool)
     ensures { row.new ≡ cond taken (image_over (view m) row.old) row.old }
 {

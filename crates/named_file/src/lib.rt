@@ -45,6 +45,7 @@ fn read_opened<F: Read>(file: &mut F, bytes: &mut [u8]) -> Option<usize>
 pub fn read_named<R: Env + Files>(rt: &R, i: usize, bytes: &mut [u8]) -> Option<usize>
     ensures { IfSome result (λ size. size ≤ length bytes.old) }
 {
+    // A row of fixed size: the report is made without a heap.
     let mut name = [0u8; NAME_ROOM];
     let n = rt.arg(i, &mut name).ok()?;
     let name = str::from_utf8(&name[..n]).ok()?;

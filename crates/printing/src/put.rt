@@ -1,5 +1,5 @@
 // Text stored at a place of the lent bytes: each function answers the place after it, or the place itself where there is no room. (Bytes and place stay
-// two parameters: `put_text_determined` and its kin speak of both, and of the place that is answered.)
+// two parameters, and are no `Display`, which wants a writer: `put_text_determined` and its kin speak of both, and of the place that is answered.)
 ghost use Rattle.std.specs.Prelude.{◌≡◌, ◌<◌, length};
 ghost use Rattle.numbers.specs.Number.{pattern_of};
 ghost use Rattle.printing.specs.Text as text;
@@ -18,9 +18,9 @@ fn digit(d: usize) -> u8
     ensures { result ≡ text.digit d }
 {
     if d < 10 {
-        return 48 + d as u8;
+        return b'0' + d as u8;
     }
-    55 + d as u8
+    b'A' - 10 + d as u8
 }
 
 pub fn put_text(out: &mut [u8], at: usize, text: &[u8]) -> usize

@@ -26,7 +26,7 @@ fn print_report<R: Env + Files + Print>(
     rt.write_all(&out[..n])
 }
 
-// Each buffer has one byte more than a file may have.
+// Each buffer has one byte more than a file may have, in rows of fixed size: the report is made without a heap.
 fn main(rt: HostRuntime) -> io::Result<()> {
     let mut list = [0u8; FILE_ROOM];
     let mut operands = [0u8; FILE_ROOM];

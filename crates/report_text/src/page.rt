@@ -13,12 +13,12 @@ use printing::lines::{put_answer, put_count};
 use printing::put::{put_decimal, put_pattern, put_text};
 use words::refusal::number_of;
 
-fn put_refusal(out: &mut [u8], at: usize, number: u32, place: usize) -> usize
+fn put_refusal(out: &mut [u8], at: usize, run: &Progress) -> usize
     requires { at + refusal_limit ≤ length out.old }
-    ensures { PutIn refusal_limit out.old out.new at result (refusal_line number place) }
+    ensures { PutIn refusal_limit out.old out.new at result (refusal_line (answer_number run.now.outcome) run.now.place) }
 {
     let second = put_text(out, at, b"refusal ");
-    put_answer(out, second, number, place)
+    put_answer(out, second, number_of(&run.outcome), run.place)
 }
 
 fn put_tag(out: &mut [u8], at: usize, number: u8) -> usize
@@ -92,7 +92,7 @@ fn put_head(out: &mut [u8], run: &Progress, left: usize, records: usize) -> usiz
     ensures { PutIn head_limit out.old out.new 0 result (head_text run.now.steps (answer_number run.now.outcome) run.now.place left (map view_register run.now.machine.registers) records) }
 {
     let second = put_count(out, 0, b"steps ", run.steps);
-    let third = put_refusal(out, second, number_of(&run.outcome), run.place);
+    let third = put_refusal(out, second, run);
     let fourth = put_count(out, third, b"left ", left);
     let fifth = put_registers(out, fourth, &run.machine.registers);
     put_count(out, fifth, b"log ", records)

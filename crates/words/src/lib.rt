@@ -145,7 +145,7 @@ fn held_refusal(operand: u32, register: bool, area: usize) -> Result<(), Refusal
 }
 
 // The operand's own refusal, against the areas. An unknown operation has none; of the known ones those that take
-// a register are the even ones.
+// a register are the even ones. (By the number and not the form: a branch on the form misses the bar of list reads and writes, docs/PERFORMANCE.md.)
 pub fn operand_refusal(operation: u32, operand: u32, areas: Areas) -> Result<(), Refusal>
     ensures { answer_number result ≡ operand_refusal areas (form_of operation) operand }
 {

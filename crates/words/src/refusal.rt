@@ -79,10 +79,7 @@ impl Refusal {
 pub fn placed(answer: Result<(), Refusal>, place: usize) -> Result<(), Refused>
     ensures { result ≡ placed answer place }
 {
-    match answer {
-        Ok(()) => Ok(()),
-        Err(refusal) => Err(refusal.at(place)),
-    }
+    answer.map_err(|refusal| refusal.at(place))
 }
 
 // "0 means accepted."
