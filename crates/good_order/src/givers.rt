@@ -39,10 +39,10 @@ pub(crate) fn giver_places(
 {
     let mut places = [NEVER; Tag::LIMIT];
     for (i, buffer) in buffers.iter().enumerate() {
-        places[usize::from(Tag::FIRST_BUFFER) + i] = buffer_place(*buffer);
+        places[Tag::FIRST_BUFFER as usize + i] = buffer_place(*buffer);
     }
     for (i, station) in stations.iter().enumerate() {
-        places[usize::from(Tag::FIRST_STATION) + i] = station_place(*station);
+        places[Tag::FIRST_STATION as usize + i] = station_place(*station);
     }
     places
 }

@@ -35,7 +35,7 @@ fn put_word(word: u32, bytes: &mut [u8], at: usize) -> usize
     put_number(words::operand_of(word), bytes, third)
 }
 
-// The first pass: the list check without areas, and the length of the file.
+// The first pass: the list check without areas, and the length of the file. (`check_list` and then a sum would be two passes.)
 fn measure(list: &[u32]) -> Result<Written, Refused>
     ensures { Measuring list.now result }
 {

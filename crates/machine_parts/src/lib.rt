@@ -68,7 +68,7 @@ impl Tag {
         if Self::STATIONS <= index {
             return false;
         }
-        let adder = usize::from(Self::FIRST_ADDER - Self::FIRST_STATION);
+        let adder = (Self::FIRST_ADDER - Self::FIRST_STATION) as usize;
         match operation {
             Operation::Add => adder <= index,
             Operation::Subtract => adder <= index,

@@ -23,7 +23,8 @@ fn word_at(row: &[u64], place: usize) -> u64
     value_or(row, place, 0)
 }
 
-// Each slot begins where it has room in the row: no sum of a place is too large. (A type of such places would say the room in its name, for each width.)
+// Each slot begins where it has room in the row: no sum of a place is too large. (A type of such places would say the room in its name, for each width; a
+// trait of reading would save four lines of `machine_in`, since no two slots have the same parts.)
 fn operand_at(row: &[u64], place: usize) -> Operand
     requires { place + 2 ≤ image_length }
     ensures { view_operand result ≡ image.operand_at row.now place }

@@ -98,7 +98,7 @@ fn put_head(out: &mut [u8], run: &Progress, left: usize, records: usize) -> usiz
     put_count(out, fifth, b"log ", records)
 }
 
-// The report of a run that was made, with the steps left and its records.
+// The report of a run that was made, with the steps left and its records. (`report` asks once whether a page has room; what it calls requires it.)
 pub(crate) fn put_page(out: &mut [u8], run: &Progress, left: usize, records: &[Record]) -> usize
     requires { (length records.now ≤ log_room) × (page_room ≤ length out.old) }
     ensures { PutIn page_room out.old out.new 0 result (page_text run.now.steps (answer_number run.now.outcome) run.now.place left (map view_register run.now.machine.registers) (map view_record records.now)) }

@@ -9,6 +9,7 @@ use numbers::Operation;
 // A change, by its nine numbers: kind, index, place, cell, operation, sink (waits, value), source (waits, value). A number that is put is the sink's value.
 #[derive(Clone, Copy)]
 struct Change {
+    // matched once, in `apply`
     kind: usize,
     index: usize,
     place: usize,
@@ -36,7 +37,7 @@ fn operand_of(waits: usize, value: usize) -> Operand {
     Operand::Waits(Tag((value % 256) as u8))
 }
 
-// A slot of a row; an index past the row changes nothing.
+// A slot of a row; an index past the row changes nothing. (Crate machine_words has a function like it for its own rows.)
 fn put<T: Copy>(row: &mut [T], index: usize, slot: T) {
     if index < row.len() {
         row[index] = slot;

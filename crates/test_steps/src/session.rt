@@ -105,6 +105,7 @@ fn run(
 // The lists and areas that a session names.
 pub(crate) fn session(out: &impl Print, bytes: &[u8]) -> io::Result<()> {
     let mut numbers = Numbers::of(bytes);
+    // The rooms are part of the test: one word more than a list may have, and cells few enough to print.
     let mut words = [0u32; 4097];
     let mut operands = [0.0f64; 16];
     let mut results = [0.0f64; 16];
