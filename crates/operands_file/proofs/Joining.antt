@@ -1,46 +1,50 @@
--- The operands file: a pattern byte by byte, and the cells number by number.
+-- The operands file: the pattern of eight bytes, and the cells number by number.
 use mathlib.Core.Path.{◌≡◌, refl, ap, ◌∙◌}
-use mathlib.Core.List.{List, ◌∷◌, append-nil}
-use Prim.Native.Nat.{ℕ, zero, suc, ◌+◌, ◌-◌, ◌*◌, ◌^◌, ◌≤◌, ◌<◌}
-use native.Mathlib.Nat.{pow-suc, pow-le-pow_right}
+use mathlib.Core.List.{List, [], ◌∷◌, append-nil}
+use Prim.Native.Nat.{ℕ, zero, suc, ◌+◌, ◌-◌, ◌*◌, ◌/◌, ◌≤◌, ◌<◌}
 use native.Mathlib.Numerals.{add-one}
 use native.Mathlib.Omega.{arith}
 use lib.Ieee.{Float}
 use lib.ListN.{length, get_or, set, take, drop, length-set, drop_of_length-le}
-use lib.Seq.{sets, sets-eq, drop-cons, get_or-take, get_or-drop, length-take-le}
+use lib.Seq.{sets, sets-eq, drop-drop, length-take-le}
+use Rattle.std.specs.Simd.{first_chunks}
 use Rattle.std.proofs.Common.{length-drop}
 use Rattle.numbers.specs.Number.{number_of}
 use Rattle.operands_file.specs.Operands.{big_endian, pattern_at, numbers_at}
 
--- so many bytes of a pattern joined
-pub record Joining (items : List ℕ) (pattern i : ℕ) : Type 0 where
-  pub small : pattern < 256 ^ i
-  pub joined : big_endian pattern (drop i items) ≡ big_endian 0 items
+-- a pattern of eight bytes is the sum of what they are worth
+abbrev pub worth : (pattern : List ℕ) → ℕ
+worth pattern =
+    get_or pattern 0 0 * 72057594037927936 + get_or pattern 1 0 * 281474976710656 + get_or pattern 2 0 * 1099511627776 + get_or pattern 3 0 * 4294967296
+    + get_or pattern 4 0 * 16777216 + get_or pattern 5 0 * 65536 + get_or pattern 6 0 * 256 + get_or pattern 7 0
 
-pub joining_none : (items : List ℕ) → Joining items 0 0
-joining_none items = record { small = omega arith; joined = refl }
+worth_joined : (pattern : List ℕ) → length pattern ≡ 8 → worth pattern ≡ big_endian 0 pattern
+worth_joined [] n = absurd (omega arith)
+worth_joined (a ∷ []) n = absurd (omega arith)
+worth_joined (a ∷ b ∷ []) n = absurd (omega arith)
+worth_joined (a ∷ b ∷ c ∷ []) n = absurd (omega arith)
+worth_joined (a ∷ b ∷ c ∷ d ∷ []) n = absurd (omega arith)
+worth_joined (a ∷ b ∷ c ∷ d ∷ e ∷ []) n = absurd (omega arith)
+worth_joined (a ∷ b ∷ c ∷ d ∷ e ∷ f ∷ []) n = absurd (omega arith)
+worth_joined (a ∷ b ∷ c ∷ d ∷ e ∷ f ∷ g ∷ []) n = absurd (omega arith)
+worth_joined (a ∷ b ∷ c ∷ d ∷ e ∷ f ∷ g ∷ h ∷ []) n = omega arith
+worth_joined (a ∷ b ∷ c ∷ d ∷ e ∷ f ∷ g ∷ h ∷ x ∷ more) n = absurd (omega arith)
 
-module _ {items : List ℕ} {pattern i : ℕ} (s : Joining items pattern i) where
-  pub joining_small : i < 8 → pattern < 72057594037927936
-  joining_small h = omega (arith, s.small, pow-le-pow_right {n = 256} (omega arith) {i = i} {j = 7} (omega arith))
+-- the i-th of a file's patterns
+chunk_at : (count i : ℕ) (bytes none : List ℕ) → i < count → get_or (first_chunks 8 count bytes) i none ≡ take 8 (drop (i * 8) bytes)
+chunk_at zero i bytes none h = absurd (omega arith)
+chunk_at (suc count) zero bytes none h = refl
+chunk_at (suc count) (suc i) bytes none h =
+    let e : 8 + i * 8 ≡ suc i * 8 = omega arith in
+    chunk_at count i (drop 8 bytes) none (omega arith) ∙ ap (take 8) (drop-drop (i * 8) 8 bytes ∙ ap (λ at. drop at bytes) e)
 
-  pub joining_more : i < length items → get_or items i 0 < 256 → Joining items (pattern * 256 + get_or items i 0) (i + 1)
-  joining_more h b =
-      let next : drop i items ≡ get_or items i 0 ∷ drop (i + 1) items = rw (add-one, drop-cons items i 0) in
-      record {
-        small = rw (add-one i, pow-suc 256 i) (omega (arith, s.small));
-        joined = rw next at s.joined;
-      }
-
-  pub joining_all : length items ≤ i → pattern ≡ big_endian 0 items
-  joining_all h = rw (drop_of_length-le items h) at s.joined
-
--- a byte of a pattern's bytes is one of the file's
-pub pattern_byte : (bytes : List ℕ) (at i : ℕ) → ((k : ℕ) → get_or bytes k 0 < 256) → i < 8 → get_or (take (at + 8 - at) (drop at bytes)) i 0 < 256
-pattern_byte bytes at i small h = rw (get_or-take (at + 8 - at) (drop at bytes) i 0 (omega arith), get_or-drop at bytes i 0) (small (at + i))
-
-pub pattern_length : (bytes : List ℕ) (at : ℕ) → at + 8 ≤ length bytes → length (take (at + 8 - at) (drop at bytes)) ≡ 8
-pattern_length bytes at h = length-take-le (at + 8 - at) (drop at bytes) (omega (arith, length-drop at bytes)) ∙ omega arith
+module _ (bytes : List ℕ) (i : ℕ) (whole : i * 8 + 8 ≤ length bytes) where
+  pub pattern_worth : {patterns : List (List ℕ)} (none : List ℕ) → patterns ≡ first_chunks 8 (length bytes / 8) bytes
+      → worth (get_or patterns i none) ≡ pattern_at bytes (i * 8)
+  unfolding pattern_at
+  pattern_worth none is =
+      let n : length (take 8 (drop (i * 8) bytes)) ≡ 8 = length-take-le 8 (drop (i * 8) bytes) (omega (arith, length-drop (i * 8) bytes)) in
+      rw (is, chunk_at (length bytes / 8) i bytes none (omega arith)) (worth_joined (take 8 (drop (i * 8) bytes)) n)
 
 pub length-numbers : (count : ℕ) (bytes : List ℕ) (at : ℕ) → length (numbers_at count bytes at) ≡ count
 length-numbers zero bytes at = refl

@@ -1,9 +1,9 @@
 // The operands file of document 01 ("The report program"): big-endian patterns of 8 bytes, at most 256.
 #![tactic(auto)]
 
-ghost use Rattle.std.specs.Prelude.{◌≡◌, ◌+◌, ◌*◌, ◌≤◌, ◌<◌, length};
+ghost use Rattle.std.specs.Prelude.{◌≡◌, ◌*◌, ◌≤◌, length};
 ghost use Rattle.words.specs.Refusals.{verdict};
-ghost use Rattle.operands_file.specs.Operands.{pattern_size, pattern_at, numbers_at};
+ghost use Rattle.operands_file.specs.Operands.{pattern_size, numbers_at};
 ghost use Rattle.operands_file.specs.Reading.{operands_verdict, read_answer, read_cells};
 ghost use Rattle.operands_file.specs.Answers.{told_read};
 
@@ -22,32 +22,15 @@ pub struct OperandsRead {
     pub place: usize,
 }
 
-// A byte below those that came before it.
-fn join(above: u64, byte: u64) -> u64
-    requires { (above < 72057594037927936) × (byte < 256) }
-    ensures { result ≡ above * 256 + byte }
-{
-    (above << 8) | byte
-}
-
-fn pattern_at(bytes: &[u8], at: usize) -> u64
-    requires { at + pattern_size ≤ length bytes.now }
-    ensures { result ≡ pattern_at bytes.now at }
-{
-    let mut pattern = 0;
-    for byte in &bytes[at..at + PATTERN_SIZE] {
-        pattern = join(pattern, u64::from(*byte));
-    }
-    pattern
-}
-
 // Stores the numbers of a file, one for each cell lent.
+// (Tried: `cells.iter_mut().zip(patterns)`; after an adapter of `iter_mut` but `enumerate` nothing is known of the cells.)
 fn store_numbers(bytes: &[u8], cells: &mut [f64])
     requires { length cells.old * pattern_size ≤ length bytes.now }
     ensures { cells.new ≡ numbers_at (length cells.old) bytes.now 0 }
 {
+    let (patterns, _) = bytes.as_chunks::<PATTERN_SIZE>();
     for (i, cell) in cells.iter_mut().enumerate() {
-        *cell = numbers::number_of(pattern_at(bytes, i * PATTERN_SIZE));
+        *cell = numbers::number_of(u64::from_be_bytes(patterns[i]));
     }
 }
 

@@ -15,27 +15,27 @@ use words::{Areas, LIST_LIMIT, check_list, check_list_against};
 // Bytes that are enough for every file, read or written.
 const FILE_ROOM: usize = 65536;
 
-fn say(out: &impl Print, text: &str) -> io::Result<()> {
-    print!(out; "{text}")
+// What a name's first letter says of its file.
+enum Kind {
+    File,
+    ShortFile,
+    Words,
 }
 
-fn number(out: &impl Print, n: usize) -> io::Result<()> {
-    print!(out; "{n}")
-}
-
-// A refusal number, 0 for accepted, and a place.
-fn answer(out: &impl Print, what: &str, refusal: u32, place: usize) -> io::Result<()> {
-    print!(out; "{what}{refusal} at {place}")
-}
-
-fn one_word(out: &impl Print, word: u32) -> io::Result<()> {
-    print!(out; " {word}")
+impl Kind {
+    fn of(name: &str) -> Kind {
+        match name.as_bytes().first() {
+            Some(b's') => Kind::ShortFile,
+            Some(b'w') => Kind::Words,
+            _ => Kind::File,
+        }
+    }
 }
 
 // The first four words of a buffer.
 fn first_words(out: &impl Print, list: &[u32]) -> io::Result<()> {
     for word in list.iter().take(4) {
-        one_word(out, *word)?;
+        print!(out; " {word}")?;
     }
     Ok(())
 }
@@ -46,9 +46,7 @@ fn write_answer(out: &impl Print, answered: Result<Written, Refused>) -> io::Res
         Ok(written) => (0, written.place, written.length),
         Err(refused) => (u32::from(refused.refusal), refused.place, 0),
     };
-    answer(out, " write ", refusal, place)?;
-    say(out, " length ")?;
-    number(out, length)?;
+    print!(out; " write {refusal} at {place} length {length}")?;
     Ok(length)
 }
 
@@ -56,7 +54,7 @@ fn write_answer(out: &impl Print, answered: Result<Written, Refused>) -> io::Res
 fn written_back(out: &impl Print, file: &[u8], list: &[u32], back: &mut [u8]) -> io::Result<()> {
     let length = write_answer(out, write(list, back))?;
     if length <= back.len() && file == &back[..length] {
-        say(out, " same")?;
+        print!(out; " same")?;
     }
     Ok(())
 }
@@ -67,31 +65,31 @@ fn list_file(out: &impl Print, bytes: &[u8], list: &mut [u32], back: &mut [u8]) 
         Ok(got) => (0, got.place, got.count),
         Err(refused) => (u32::from(refused.refusal), refused.place, 0),
     };
-    answer(out, " read ", refusal, place)?;
-    say(out, " count ")?;
-    number(out, count)?;
+    print!(out; " read {refusal} at {place} count {count}")?;
     if list.len() < count {
         return Ok(());
     }
     written_back(out, bytes, &list[..count], back)?;
-    say(out, " words")?;
+    print!(out; " words")?;
     first_words(out, list)?;
-    say(out, "\n")
+    println!(out)
 }
 
+// A refusal number, 0 for accepted, and a place.
 fn verdict(out: &impl Print, what: &str, checked: Result<usize, Refused>) -> io::Result<()> {
-    match checked {
-        Ok(place) => answer(out, what, 0, place),
-        Err(refused) => answer(out, what, u32::from(refused.refusal), refused.place),
-    }
+    let (refusal, place) = match checked {
+        Ok(place) => (0, place),
+        Err(refused) => (u32::from(refused.refusal), refused.place),
+    };
+    print!(out; " {what} {refusal} at {place}")
 }
 
 // A list of words: alone, against areas of 2 and 3 cells, and written with room for 12 bytes.
 fn list_words(out: &impl Print, list: &[u32]) -> io::Result<()> {
-    verdict(out, " alone ", check_list(list))?;
+    verdict(out, "alone", check_list(list))?;
     verdict(
         out,
-        " areas ",
+        "areas",
         check_list_against(
             list,
             Areas {
@@ -100,47 +98,41 @@ fn list_words(out: &impl Print, list: &[u32]) -> io::Result<()> {
             },
         ),
     )?;
+    // The test's short room, and bytes of 9 that must stay as found where nothing is written.
     let mut file = [9u8; 12];
     write_answer(out, write(list, &mut file))?;
-    say(out, " bytes")?;
+    print!(out; " bytes")?;
     hex_row(out, &file)?;
-    say(out, "\n")
-}
-
-fn hex_byte(out: &impl Print, byte: u8) -> io::Result<()> {
-    print!(out; " {byte:02x}")
+    println!(out)
 }
 
 fn hex_row(out: &impl Print, bytes: &[u8]) -> io::Result<()> {
     for byte in bytes {
-        hex_byte(out, *byte)?;
+        print!(out; " {byte:02x}")?;
     }
     Ok(())
 }
 
 // The whole words of the bytes, at most 5,000.
 fn words_of<A: Allocator>(alloc: A, bytes: &[u8]) -> Result<Vec<u32, A>, AllocError> {
-    bytes
-        .chunks_exact(4)
+    let (words, _) = bytes.as_chunks::<4>();
+    words
+        .iter()
         .take(5000)
-        .map(|word| word
-            .iter()
-            .fold(0, |above, byte| (above << 8) | u32::from(*byte)))
+        .map(|word| u32::from_be_bytes(*word))
         .collect(alloc)
 }
 
-fn one_list<R: Print + Alloc>(rt: &R, bytes: &[u8], kind: u8) -> io::Result<()> {
-    if kind == b'w' {
-        let list = words_of(rt.alloc(), bytes)?;
-        return list_words(rt, list.as_slice());
-    }
+fn one_list<R: Print + Alloc>(rt: &R, bytes: &[u8], kind: Kind) -> io::Result<()> {
+    // Rows of fixed size, by the test: room for every file, for 2 words or the longest list, and words of 7 that must stay as found.
     let mut back = [0u8; FILE_ROOM];
-    if kind == b's' {
-        let mut short = [7u32; 2];
-        return list_file(rt, bytes, &mut short, &mut back);
-    }
+    let mut short = [7u32; 2];
     let mut long = [7u32; LIST_LIMIT];
-    list_file(rt, bytes, &mut long, &mut back)
+    match kind {
+        Kind::File => list_file(rt, bytes, &mut long, &mut back),
+        Kind::ShortFile => list_file(rt, bytes, &mut short, &mut back),
+        Kind::Words => list_words(rt, words_of(rt.alloc(), bytes)?.as_slice()),
+    }
 }
 
 // A file's bytes, no more than there is room for.
@@ -153,11 +145,11 @@ fn file_bytes<R: Files + Alloc>(rt: &R, name: &str) -> io::Result<Vec<u8, R::A>>
 }
 
 // A file that can't be read is told on standard error.
-fn one(rt: &impl Runtime, name: &str, kind: u8) -> io::Result<()> {
+fn one(rt: &impl Runtime, name: &str) -> io::Result<()> {
     match file_bytes(rt, name) {
         Ok(bytes) => {
-            say(rt, name)?;
-            one_list(rt, bytes.as_slice(), kind)
+            print!(rt; "{name}")?;
+            one_list(rt, bytes.as_slice(), Kind::of(name))
         }
         Err(error) => eprintln!(rt; "{name}: {error}"),
     }
@@ -165,12 +157,7 @@ fn one(rt: &impl Runtime, name: &str, kind: u8) -> io::Result<()> {
 
 fn main(rt: HostRuntime) -> io::Result<()> {
     for name in env::args(&rt)?.skip(1) {
-        argument(&rt, name.as_str())?;
+        one(&rt, name.as_str())?;
     }
     Ok(())
-}
-
-fn argument(rt: &impl Runtime, name: &str) -> io::Result<()> {
-    let kind = name.as_bytes().first().copied().unwrap_or(0);
-    one(rt, name, kind)
 }
