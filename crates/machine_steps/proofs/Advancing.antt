@@ -22,6 +22,7 @@ use Rattle.machine_parts.specs.declared.Record.{Record}
 use Rattle.machine_parts.specs.View.{view, lent_with}
 use Rattle.std.specs.Prelude as given
 use Rattle.std.specs.Prelude.{Some, None, Result, Ok, Err}
+use Rattle.std.specs.Result.{IsOkAnd}
 use Rattle.words.specs.declared.refusal.Refusal.{Refusal}
 use Rattle.machine_parts.specs.View.{released_by}
 use Rattle.machine_parts.proofs.Exact.{back}
@@ -37,6 +38,11 @@ pub begins_so : (m : Machine) (words : List ℕ) (operands : List Float) (result
     → record { machine = m; steps = 0; place = 0; refusal = n; records = 0; going = eqb n 0 } ≡ beginning m words operands results
 unfolding beginning
 begins_so m words operands results q = λ i. record { machine = m; steps = 0; place = 0; refusal = q i; records = 0; going = eqb (q i) 0 }
+
+-- an outcome whose record is let go of
+pub mapped : (P : Unit → Type 0) (r : Result Unit Refusal) → IsOkAnd r P → r ≡ Ok tt
+mapped P (Ok u) h = refl
+mapped P (Err e) h = absurd h
 
 -- without room nothing is released
 module _ (L : Lent Float) (schedule : List ℕ) where

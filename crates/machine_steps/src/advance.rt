@@ -79,19 +79,13 @@ impl Progress {
         self.machine = taken.machine;
         self.steps += taken.steps;
         self.place = taken.place;
+        self.outcome = taken.outcome.map(|_| ());
         self.going = false;
         match taken.outcome {
-            Err(refusal) => {
-                self.outcome = Err(refusal);
-                None
-            }
-            Ok(None) => {
-                self.outcome = Ok(());
-                None
-            }
+            Err(_) => None,
+            Ok(None) => None,
             Ok(Some(made)) => {
                 let index = self.records;
-                self.outcome = Ok(());
                 self.records = index + 1;
                 self.going = true;
                 Some(Entry { index, made })
