@@ -49,7 +49,7 @@ pub(crate) fn stores_good(
     stores.iter().all(|store| slot_rules::store_good(*store, next, results, places))
 }
 
-// Each pair of the three.
+// Each pair of the three. (Three lines; a loop over pairs would be two loops over indices.)
 pub(crate) fn stores_apart(stores: [StoreBuffer; StoreBuffer::COUNT]) -> bool
     ensures { result ≡ stores_apart (map view_store stores) }
 {

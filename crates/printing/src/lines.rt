@@ -11,7 +11,7 @@ pub(crate) const ANSWER_LIMIT: usize = DECIMAL_LIMIT + 4 + DECIMAL_LIMIT + 1;
 // Of a count without its label: the digits and the line's end.
 const COUNT_LIMIT: usize = DECIMAL_LIMIT + 1;
 
-// A refusal number and its place, to the line's end.
+// A refusal number and its place, to the line's end. (A number, 0 for accepted too, and no Refused: `put_answer_determined` speaks of any number.)
 pub fn put_answer(out: &mut [u8], at: usize, number: u32, place: usize) -> usize
     ensures { PutIfRoom answer_limit out.old out.new at result (answer_text number place) }
 {

@@ -25,7 +25,7 @@ pub(crate) fn told_run(out: &mut [u8], words: &[u32], operands: &[f64], schedule
     requires { page_room ≤ length out.old }
     ensures { PutIn page_room out.old out.new 0 result (ran_text (report_lent words.now operands.now) (run_of (report_lent words.now operands.now) schedule.now)) }
 {
-    // Cells and log of fixed size, as 01 says.
+    // Cells and log of fixed size, as 01 says: the report is made without a heap.
     let mut results = [0.0f64; CELL_LIMIT];
     let machine = start(words, operands, &results);
     let mut log = [Record {

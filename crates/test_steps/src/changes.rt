@@ -37,7 +37,7 @@ fn operand_of(waits: usize, value: usize) -> Operand {
     Operand::Waits(Tag((value % 256) as u8))
 }
 
-// A slot of a row; an index past the row changes nothing. (Crate machine_words has a function like it for its own rows.)
+// A slot of a row; an index past the row changes nothing. (Crate machine_words has one like it, inner to that crate; three lines are no reason to make it public there.)
 fn put<T: Copy>(row: &mut [T], index: usize, slot: T) {
     if index < row.len() {
         row[index] = slot;
