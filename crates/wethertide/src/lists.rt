@@ -35,7 +35,7 @@ pub extern "C" fn wethertide_read_list(bytes: &[u8], words: &mut [u32], answer: 
     }
 }
 
-// Answers the refusal; the row of answers takes the length and the place.
+// Answers the refusal; the row of answers takes the length and the place. (Beside `wethertide_read_list` by the C interface: each is one call over rows of its own.)
 #[unsafe(no_mangle)]
 pub extern "C" fn wethertide_write_list(words: &[u32], bytes: &mut [u8], answer: &mut [u64]) -> u32
     ensures { ByRoom (fits placed_length answer.old)
