@@ -56,7 +56,7 @@ module _ (file : Option (List ℕ)) {bytes : List ℕ} (is : Ok bytes ≡ opened
   enough e = omega (arith, few-numbers e)
 
   pub cells_refused : (e : code.Refused) {cells : List Float} → record { refusal = number e.refusal; place = e.place; count = 0 } ≡ read_answer bytes cells₀
-      → CellsTaken file cells (Err (found.Refused e))
+      → CellsTaken file cells (Err (found.Refused (number e.refusal) e.place))
   cells_refused e a =
       let z = ap (λ (r : OperandsRead). r.refusal) a in
       let own = refused_as (length cells₀) (length (operands_in bytes)) verdict enough (λ q. number_real e.refusal (z ∙ q)) in

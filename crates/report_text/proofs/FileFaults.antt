@@ -8,7 +8,6 @@ use lib.Dec.{ltb}
 use lib.ListN.{length}
 use Rattle.std.specs.Prelude.{Option, Some, None, Result, Ok, Err, option_copied, unwrap_or}
 use Rattle.std.specs.Result.{result_map_both}
-use Rattle.words.specs.declared.refusal.Refusal.TheVariants.{Room}
 use Rattle.printing.specs.declared.Fault as code
 use Rattle.printing.specs.declared.Fault.TheVariants as found
 use Rattle.printing.specs.Faults.{told_fault}
@@ -17,7 +16,7 @@ use Rattle.theory_report.specs.Report.{file_limit, file_fault, schedule_fault, b
 use Rattle.report_text.specs.Files.{file_given, opened, fault_of}
 
 abbrev too_long : code.Fault
-too_long = found.Refused (record { refusal = Room; place = file_limit })
+too_long = found.Refused 11 file_limit
 
 module _ (own : List ℕ → Fault) where
   pub stopped_fault : (file : Option (List ℕ)) {f : code.Fault} → Err f ≡ opened file → told_fault (Some f) ≡ file_fault (file_given file) own

@@ -21,7 +21,7 @@ use Rattle.report_text.specs.Files.{file_given, fault_of, named, name_text, repo
 -- a stop line is the only line
 only_line : (fault : code.Fault) (name further other : List ℕ) → or_stopped (told_fault (Some fault)) name further ≡ or_stopped (told_fault (Some fault)) name other
 only_line found.Missing name further other = refl
-only_line (found.Refused r) name further other = refl
+only_line (found.Refused number place) name further other = refl
 
 module _ {A : Type 0} where
   -- an answer that was named: a fault is the line's, and without one there is none

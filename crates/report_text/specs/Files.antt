@@ -6,7 +6,6 @@ use Rattle.words.specs.Instructions.{cell_limit, list_limit}
 use Rattle.list_file.specs.Reading.{list_in}
 use Rattle.theory_machine.specs.Machine.{Lent}
 use Rattle.operands_file.specs.Operands.{operands_in}
-use Rattle.words.specs.declared.refusal.Refusal.TheVariants.{Room}
 use Rattle.printing.specs.declared.Fault as code
 use Rattle.printing.specs.declared.Fault.TheVariants as found
 use Rattle.printing.specs.Faults.{told_fault}
@@ -30,7 +29,7 @@ file_given (Some bytes) = some bytes
 -- the file's bytes, or what stops every program at it: missing, then 11
 abbrev pub opened : declared.Option (List ℕ) → Result (List ℕ) code.Fault
 opened None = Err found.Missing
-opened (Some bytes) = cond (ltb file_limit (length bytes)) (Err (found.Refused (record { refusal = Room; place = file_limit }))) (Ok bytes)
+opened (Some bytes) = cond (ltb file_limit (length bytes)) (Err (found.Refused 11 file_limit)) (Ok bytes)
 
 -- the fault of an answer, if there is one
 abbrev pub fault_of : {A : Type 0} → Result A code.Fault → Fault

@@ -44,7 +44,7 @@ fn opened(file: Option<&[u8]>) -> Result<&[u8], Fault>
 {
     let bytes = file.ok_or(Fault::Missing)?;
     if FILE_LIMIT < bytes.len() {
-        return Err(Fault::Refused(Refusal::Room.at(FILE_LIMIT)));
+        return Err(Fault::from(Refusal::Room.at(FILE_LIMIT)));
     }
     Ok(bytes)
 }

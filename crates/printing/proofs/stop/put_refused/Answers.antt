@@ -1,4 +1,4 @@
-use mathlib.Core.Path.{ap, sym}
+use mathlib.Core.Path.{ap}
 use mathlib.Core.Bool.{not}
 use native.Mathlib.Omega.{arith}
 use lib.ListN.{length}
@@ -10,7 +10,7 @@ use Rattle.printing.proofs.stop.put_refused.Goals as goal
 pub returns-then-not-has_room : goal.returns-then-not-has_room
 returns-then-not-has_room c =
     let a = c.args in
-    not_put (no_room (stop_limit a.name.now) (length a.out.now) a.at c.has_room.ensures (ap not c.if-not-has_room.true)) (rw (sym c.from-number.ensures) (refused_size a.name.now c.from-number.result a.refused.place (omega arith) (omega arith)))
+    not_put (no_room (stop_limit a.name.now) (length a.out.now) a.at c.has_room.ensures (ap not c.if-not-has_room.true)) (refused_size a.name.now a.number a.place (omega arith) (omega arith))
 
 -- where a part of the line has been put has that part's name, `to-` and the name is the line up to it, and `test` is where room has been found
 pub returns : goal.returns
@@ -23,4 +23,4 @@ returns c =
     let to-name = then-put limit room to-label c.put_text-third.ensures (omega arith) in
     let to-gap = then-put limit room to-name c.put_text-fourth.ensures (omega arith) in
     let to-answer = then-put limit room to-gap c.put_answer.ensures (omega arith) in
-    rw (sym c.from-number.ensures) (is-put fits (in_more limit to-answer (omega arith)))
+    is-put fits (in_more limit to-answer (omega arith))
