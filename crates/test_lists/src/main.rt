@@ -2,10 +2,11 @@
 // A name that begins with f is a list file, read with room for 4,096 words; s: with room for 2; w: words of four bytes, high byte first.
 #![tactic(auto)]
 
+ghost use Rattle.std.specs.Prelude.{◌≤◌, length};
+
 use list_file::Written;
 use list_file::reader::read;
 use list_file::writer::write;
-use std::alloc::{AllocError, Allocator};
 use std::io::Read;
 use std::rt::{Files, Runtime};
 use std::{env, fs, io};
@@ -16,6 +17,7 @@ use words::{Areas, LIST_LIMIT, check_list, check_list_against};
 const FILE_ROOM: usize = 65536;
 
 // What a name's first letter says of its file.
+#[derive(Clone, Copy)]
 enum Kind {
     File,
     ShortFile,
@@ -113,26 +115,32 @@ fn hex_row(out: &impl Print, bytes: &[u8]) -> io::Result<()> {
     Ok(())
 }
 
-// The whole words of the bytes, at most 5,000.
-fn words_of<A: Allocator>(alloc: A, bytes: &[u8]) -> Result<Vec<u32, A>, AllocError> {
+// As many whole words as the bytes hold and the list has room for.
+fn words_of(bytes: &[u8], list: &mut [u32]) -> usize
+    ensures { result ≤ length list.old }
+{
     let (words, _) = bytes.as_chunks::<4>();
-    words
-        .iter()
-        .take(5000)
-        .map(|word| u32::from_be_bytes(*word))
-        .collect(alloc)
+    let count = words.len().min(list.len());
+    for (place, word) in list.iter_mut().zip(words) {
+        *place = u32::from_be_bytes(*word);
+    }
+    count
 }
 
-fn one_list<R: Print + Alloc>(rt: &R, bytes: &[u8], kind: Kind) -> io::Result<()> {
-    // Rows of fixed size, by the test: room for every file, for 2 words or the longest list, and words of 7 that must stay as found.
-    let mut back = [0u8; FILE_ROOM];
-    let mut short = [7u32; 2];
-    let mut long = [7u32; LIST_LIMIT];
-    match kind {
-        Kind::File => list_file(rt, bytes, &mut long, &mut back),
-        Kind::ShortFile => list_file(rt, bytes, &mut short, &mut back),
-        Kind::Words => list_words(rt, words_of(rt.alloc(), bytes)?.as_slice()),
+// Rows of fixed size, by the test: words of 0 for a row of words, room for every file, and words of 7, 2 or the longest list's, that must stay as found.
+fn one_list(out: &impl Print, bytes: &[u8], kind: Kind) -> io::Result<()> {
+    if let Kind::Words = kind {
+        let mut list = [0u32; 5000];
+        let count = words_of(bytes, &mut list);
+        return list_words(out, &list[..count]);
     }
+    let mut back = [0u8; FILE_ROOM];
+    if let Kind::ShortFile = kind {
+        let mut short = [7u32; 2];
+        return list_file(out, bytes, &mut short, &mut back);
+    }
+    let mut long = [7u32; LIST_LIMIT];
+    list_file(out, bytes, &mut long, &mut back)
 }
 
 // A file's bytes, no more than there is room for.

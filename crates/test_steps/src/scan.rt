@@ -1,5 +1,5 @@
 // The numbers of a session, one after another; everything that is no digit is passed over.
-ghost use Rattle.std.specs.Prelude.{◌≤◌, length};
+ghost use Rattle.std.specs.Prelude.{◌≤◌, ◌<◌, length};
 
 // A number this large takes no more digits.
 const FULL: usize = 100000000;
@@ -31,7 +31,9 @@ impl<'a> Numbers<'a> {
     }
 
     // The next number; 0 after the last.
-    pub(crate) fn next(&mut self) -> usize {
+    pub(crate) fn next(&mut self) -> usize
+        ensures { result < 10000000000 }
+    {
         self.skip();
         let digits = self.rest;
         let mut value = 0;
