@@ -3,13 +3,13 @@ use mathlib.Core.Path.{◌≡◌, refl, sym, ap, ◌∙◌}
 use mathlib.Core.Bool.{Bool, true, false, cond, not, ◌&&◌, true≢false}
 use mathlib.Core.Logic.{inl, inr, ⊎_elim, ◌≢◌}
 use mathlib.Core.List.{List, [], ◌∷◌}
-use Prim.Native.Nat.{ℕ, zero, suc, ◌+◌, ◌≤◌, ◌<◌, ◌%◌}
+use Prim.Native.Nat.{ℕ, zero, suc, ◌+◌, ◌-◌, ◌≤◌, ◌<◌, ◌%◌}
 use native.Mathlib.Nat.{add-zero, not-suc-le-zero, le_of_suc-le-suc}
 use native.Mathlib.Omega.{arith}
 use lib.Bits.{bit_and, and_mask, and_zero_r}
 use lib.Dec.{ltb, eqb}
 use lib.ListN.{length, get_or, drop, get_or-eq_default}
-use borrow.Author.Tests.{ltb-true, ltb-false, lt-ltb, le-ltb, le-leb}
+use borrow.Author.Tests.{ltb-true, ltb-false, lt-ltb, le-ltb, le-leb, eqb-true, eqb-false}
 use Rattle.words.specs.declared.Form.{Form}
 use Rattle.words.specs.declared.Form.TheVariants.{Unknown, LD, LDR, CellArithmetic, RegisterArithmetic, STD}
 use Rattle.words.specs.declared.Areas.{Areas}
@@ -116,6 +116,26 @@ judged x r area {limit} {odd} {refusal} el eo er =
       uneven = λ n. en ∙ odd_one x area r (bit_and x odd) m n;
       good = λ h g z. passes x area r (bit_and x odd) m (rw el at h) g z;
     }
+
+-- the odd bit as the code reckons it: 1 for an operation that takes a register
+odd_for : (o : ℕ) → 1 - o % 2 ≡ cond (eqb (o % 2) 0) 1 0
+odd_for o = go (eqb (o % 2) 0) refl
+  where
+    go : (b : Bool) → eqb (o % 2) 0 ≡ b → 1 - o % 2 ≡ cond b 1 0
+    go true e = let z : o % 2 ≡ 0 = eqb-true (o % 2) 0 e in omega arith
+    go false e = let n : o % 2 ≢ 0 = eqb-false (o % 2) 0 e in omega arith
+
+even_so : (o : ℕ) → not (eqb (1 - o % 2) 0) ≡ eqb (o % 2) 0
+even_so o = ap (λ n. not (eqb n 0)) (odd_for o) ∙ back (eqb (o % 2) 0)
+  where
+    back : (b : Bool) → not (eqb (cond b 1 0) 0) ≡ b
+    back true = refl
+    back false = refl
+
+pub judged_for : (x o area : ℕ) → {limit : ℕ} {refusal : Refusal} → limit ≡ cond (not (eqb (1 - o % 2) 0)) 8 area → refusal ≡ cond (not (eqb (1 - o % 2) 0)) Register Cell
+    → Judged x (eqb (o % 2) 0) area limit (1 - o % 2) refusal
+judged_for x o area el er =
+    judged x (eqb (o % 2) 0) area (el ∙ ap (λ b. cond b 8 area) (even_so o)) (odd_for o) (er ∙ ap (λ b. cond b Register Cell) (even_so o))
 
 -- the operations that take a register are the even ones, and the last one stores: row by row of the table
 abbrev same : Bool → Bool → Bool

@@ -1,7 +1,7 @@
 // Words and lists of document 01: fields, the instruction table, and the check of a word and of a list.
 #![tactic(auto)]
 
-ghost use Rattle.std.specs.Prelude.{◌≡◌, cond, length};
+ghost use Rattle.std.specs.Prelude.{◌≡◌, ◌%◌, cond, eqb, length};
 ghost use Rattle.words.specs.Instructions.{operation_field, r1_field, operand_field, form_of};
 ghost use Rattle.words.specs.Operands.{held_refusal};
 ghost use Rattle.words.specs.Check.{operation_refusal, register_refusal, operand_refusal, word_refusal, list_check, list_check_alone};
@@ -111,9 +111,10 @@ pub fn operation_refusal(operation: u32) -> Result<(), Refusal>
 pub fn register_refusal(register: u32) -> Result<(), Refusal>
     ensures { answer_number result ≡ register_refusal register }
 {
-    match register {
-        0 | 2 | 4 | 6 => Ok(()),
-        _ => Err(Refusal::Register),
+    if matches!(register, 0 | 2 | 4 | 6) {
+        Ok(())
+    } else {
+        Err(Refusal::Register)
     }
 }
 
@@ -124,14 +125,15 @@ fn chosen<T: Copy>(test: bool, yes: T, no: T) -> T
 }
 
 // An operand's refusal, held to a register's number or to the cells of an area. What it is held to is chosen first, and then tested in one way: a
-// branch on the kind of operand would be mispredicted at every other word of a mixed list.
-fn held_refusal(operand: u32, register: bool, area: usize) -> Result<(), Refusal>
-    ensures { answer_number result ≡ held_refusal operand register area }
+// branch on the kind of operand would be mispredicted at every other word of a mixed list. (`odd`, 1 for a register, is reckoned and not chosen: where
+// it is chosen, the compiler makes a branch of the choice of an area in the list's check, which takes half as long again, docs/PERFORMANCE.md.)
+fn held_refusal(operand: u32, operation: u32, area: usize) -> Result<(), Refusal>
+    ensures { answer_number result ≡ held_refusal operand (eqb (operation % 2) 0) area }
 {
     let at = operand as usize;
-    let limit = chosen(register, REGISTER_LIMIT, area);
-    let odd = chosen(register, 1, 0);
-    let refusal = chosen(register, Refusal::Register, Refusal::Cell);
+    let odd = (1 - operation % 2) as usize;
+    let limit = chosen(odd != 0, REGISTER_LIMIT, area);
+    let refusal = chosen(odd != 0, Refusal::Register, Refusal::Cell);
     if limit <= at {
         return Err(refusal);
     }
@@ -153,7 +155,7 @@ pub fn operand_refusal(operation: u32, operand: u32, areas: Areas) -> Result<(),
         return Ok(());
     }
     let area = chosen(operation == STORE, areas.results, areas.operands);
-    held_refusal(operand, operation % 2 == 0, area)
+    held_refusal(operand, operation, area)
 }
 
 // Inside a word 2, then R1's 3, then the operand's 3 or 4.
