@@ -15,7 +15,7 @@ use numbers::Operation;
 pub fn lowest_buffer(bs: [Buffer; Tag::BUFFERS]) -> Option<usize>
     ensures { view_free_slot result ≡ lowest_buffer_in (map view_buffer bs) }
 {
-    bs.iter().position(|b| matches!(b.state, BufferState::Free))
+    (0..Tag::BUFFERS).find(|i| matches!(bs[*i].state, BufferState::Free))
 }
 
 // A free station of the operation's kind, which goes by its index.

@@ -2,7 +2,7 @@
 // whose bytes are known which of them were read.
 #![tactic(auto)]
 
-ghost use Rattle.std.specs.Prelude.{◌≡◌, ◌≤◌, length, take, IfSome};
+ghost use Rattle.std.specs.Prelude.{◌≡◌, ◌≤◌, length, take, IfSome, IsNone};
 
 use std::io::{Error, ErrorKind, Read};
 use std::rt::{Env, Files};
@@ -40,6 +40,15 @@ fn read_opened<F: Read>(file: &mut F, bytes: &mut [u8]) -> Option<usize>
     None
 }
 
+// A file that could not be opened is missing: no bytes are read of it.
+fn read_if_opened<F: Read + Drop>(file: Option<F>, bytes: &mut [u8]) -> Option<usize>
+    ensures missing { IsNone file → IsNone result }
+    ensures within { IfSome result (λ size. size ≤ length bytes.old) }
+{
+    let mut file = file?;
+    read_opened(&mut file, bytes)
+}
+
 // Reads the file that the program's argument i names into the lent bytes: how many were read, if it was named, opened and read to its end or to the buffer's.
 // A name that is not UTF-8 names no file here.
 pub fn read_named<R: Env + Files>(rt: &R, i: usize, bytes: &mut [u8]) -> Option<usize>
@@ -49,6 +58,5 @@ pub fn read_named<R: Env + Files>(rt: &R, i: usize, bytes: &mut [u8]) -> Option<
     let mut name = [0u8; NAME_ROOM];
     let n = rt.arg(i, &mut name).ok()?;
     let name = str::from_utf8(&name[..n]).ok()?;
-    let mut file = fs::open(rt, name).ok()?;
-    read_opened(&mut file, bytes)
+    read_if_opened(fs::open(rt, name).ok(), bytes)
 }
