@@ -106,7 +106,7 @@ number_chosen : (r : Bool) → number (cond r Register Cell) ≡ cond r 3 4
 number_chosen true = refl
 number_chosen false = refl
 
-pub judged : (x : ℕ) (r : Bool) (area : ℕ) → {limit odd : ℕ} {refusal : Refusal} → limit ≡ cond r 8 area → odd ≡ cond r 1 0 → refusal ≡ cond r Register Cell → Judged x r area limit odd refusal
+judged : (x : ℕ) (r : Bool) (area : ℕ) → {limit odd : ℕ} {refusal : Refusal} → limit ≡ cond r 8 area → odd ≡ cond r 1 0 → refusal ≡ cond r Register Cell → Judged x r area limit odd refusal
 judged x r area {limit} {odd} {refusal} el eo er =
     let m : bit_and x odd ≡ cond r (x % 2) 0 = rw eo (odd_bit x r) in
     let en : number refusal ≡ cond r 3 4 = ap number er ∙ number_chosen r in

@@ -108,6 +108,7 @@ pub fn operation_refusal(operation: u32) -> Result<(), Refusal>
     }
 }
 
+// (A test, and no match that answers: of that the compiler makes a test of a bit, which is slower in the list's check.)
 pub fn register_refusal(register: u32) -> Result<(), Refusal>
     ensures { answer_number result ≡ register_refusal register }
 {
